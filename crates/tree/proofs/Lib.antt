@@ -1,0 +1,4 @@
+pub mod Metering
+pub mod Folding
+pub mod Climbing
+pub mod Nodes
