@@ -2,3 +2,5 @@ pub mod Metering
 pub mod Folding
 pub mod Climbing
 pub mod Nodes
+pub mod Aligning
+pub mod Spanning

@@ -1,3 +1,5 @@
 pub mod Meaning
 pub mod Tree
 pub mod Path
+pub mod Numbers
+pub mod Spans

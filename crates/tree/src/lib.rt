@@ -1,7 +1,9 @@
 // Merkle trees over one-time tokens: what makes nodes, what the full tree is, and the fold from a leaf
 // to the root.
 pub mod counter;
+pub mod dummy;
 pub mod fault;
 pub mod fold;
 pub mod maker;
+pub mod span;
 

@@ -1,0 +1,17 @@
+-- Numbers as bytes, and the sizes that everything keeps within.
+use mathlib.Core.List.{List, [], _∷_}
+use mathlib.Core.Bool.{Bool, _&&_}
+use Prim.Native.Nat.{ℕ, _+_, _*_, _/_, _%_, _^_}
+use lib.Dec.{eqb, leb}
+use lib.ListN.{getD}
+
+-- a number below 2^32 in four bytes, highest first, and back
+abbrev pub to-bytes : ℕ → List ℕ
+to-bytes n = n / 2 ^ 24 % 256 ∷ n / 2 ^ 16 % 256 ∷ n / 2 ^ 8 % 256 ∷ n % 256 ∷ []
+
+abbrev pub from-bytes : List ℕ → ℕ
+from-bytes bs = ((getD bs 0 0 * 256 + getD bs 1 0) * 256 + getD bs 2 0) * 256 + getD bs 3 0
+
+-- the leaves under a node of height t with first leaf f: whole, and within 2^20
+abbrev pub aligned : ℕ → ℕ → Bool
+aligned f t = eqb (f % 2 ^ t) 0 && leb (f + 2 ^ t) (2 ^ 20)
