@@ -4,3 +4,4 @@ pub mod Climbing
 pub mod Nodes
 pub mod Aligning
 pub mod Spanning
+pub mod Numbering

@@ -2,7 +2,7 @@
 use mathlib.Core.Path.{_≡_}
 use mathlib.Core.List.{List, _++_}
 use Prim.Native.Nat.{ℕ, _+_, _%_, _^_, _<_, _≤_}
-use lib.ListN.{length, take, drop}
+use lib.ListN.{length, getD, take, drop}
 use Rattle.std.specs.declared.option.Option.{Option}
 use Rattle.std.specs.declared.option.Option.the-variants.{Some, None}
 use Rattle.std.specs.declared.result.Result.{Result}
@@ -28,6 +28,10 @@ pub record Lawful {N : Type 0} (m : Meaning N) : Type 0 where
   pub at-least : 1 ≤ m .width
   pub at-most : m .width ≤ 32
   pub kind-fits : m .kind < 256
+
+-- Some makers keep this too: bytes that read as a node are those that the node is put into.
+abbrev pub One-spelling : {N : Type 0} → Meaning N → Type 0
+One-spelling {N} m = (bytes : List ℕ) (x : N) → length bytes ≡ m .width → ((i : ℕ) → getD bytes i 0 < 256) → m .read bytes ≡ Some x → m .put x ≡ bytes
 
 -- How many leaves and joins a maker has made, each modulo 2^64.
 pub record Meter : Type 0 where

@@ -8,7 +8,7 @@ use lib.ListN.{getD, replicate}
 use Rattle.std.specs.declared.option.Option.{Option}
 use Rattle.std.specs.declared.option.Option.the-variants.{Some, None}
 use Rattle.tree.specs.Meaning.{Meaning}
-use Rattle.tree.specs.Numbers.{to-bytes, from-bytes, aligned}
+use Rattle.tree.specs.Numbers.{number-bytes, number-at, aligned}
 use Rattle.tree.specs.declared.span.Interval.{Interval}
 use Rattle.tree.specs.declared.span.Span.{Span}
 use Rattle.tree.specs.declared.span.Span.the-variants.{Sound, Broken}
@@ -31,7 +31,7 @@ join-spans (Sound a) Broken = Broken
 join-spans Broken y = Broken
 
 abbrev pub put-span : Span → List ℕ
-put-span (Sound a) = to-bytes (a .first) ++ a .height ∷ []
+put-span (Sound a) = number-bytes (a .first) ++ a .height ∷ []
 put-span Broken = replicate 5 255
 
 -- five bytes 255
@@ -41,7 +41,7 @@ is-broken bs = eqb (getD bs 0 0) 255 && eqb (getD bs 1 0) 255 && eqb (getD bs 2 
 abbrev pub read-span : List ℕ → Option Span
 read-span bs =
     cond (is-broken bs) (Some Broken)
-    (cond (aligned (from-bytes bs) (getD bs 4 0)) (Some (span (from-bytes bs) (getD bs 4 0))) None)
+    (cond (aligned (number-at 0 bs) (getD bs 4 0)) (Some (span (number-at 0 bs) (getD bs 4 0))) None)
 
 abbrev pub dummy-meaning : Meaning Span
 dummy-meaning = record {

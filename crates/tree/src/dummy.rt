@@ -3,7 +3,7 @@ ghost use Prim.Native.Nat.{_≤_, _^_};
 ghost use lib.ListN.{length};
 ghost use Rattle.tree.specs.Numbers.{aligned};
 ghost use Rattle.std.specs.Orderings.{Decides};
-ghost use Rattle.tree.specs.Meaning.{reading};
+ghost use Rattle.tree.specs.Meaning.{reading, One-spelling};
 ghost use Rattle.tree.specs.Spans.{span, join-intervals, join-spans, put-span, is-broken, read-span, dummy-meaning};
 ghost use Rattle.tree.specs.declared.span.Span.the-variants.{Sound, Broken};
 use crate::counter::Counter;
@@ -21,7 +21,8 @@ pub struct Dummy {
 
 impl Dummy {
     pub fn new() -> Dummy
-        ensures { λ r. ⌜ reading (r .counter .leaves) (r .counter .joins) ≡ reading 0 0 ⌝ }
+        ensures starts { λ r. ⌜ reading (r .counter .leaves) (r .counter .joins) ≡ reading 0 0 ⌝ }
+        ensures one_spelling { λ _. ⌜ One-spelling dummy-meaning ⌝ }
     {
         Dummy { counter: Counter::new() }
     }

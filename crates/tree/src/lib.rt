@@ -4,6 +4,7 @@ pub mod counter;
 pub mod dummy;
 pub mod fault;
 pub mod fold;
+pub mod height;
 pub mod maker;
 pub mod span;
 
