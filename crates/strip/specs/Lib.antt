@@ -1,0 +1,4 @@
+pub mod Format
+pub mod Refusals
+pub mod Calls
+pub mod Sections

@@ -1,0 +1,27 @@
+-- What each refusal is called, and which of several comes.
+use mathlib.Core.List.{List, [], _∷_}
+use mathlib.Core.Bool.{Bool, cond}
+use Prim.Native.Nat.{ℕ}
+use Rattle.std.specs.declared.option.Option.{Option}
+use Rattle.std.specs.declared.option.Option.the-variants.{Some, None}
+use Rattle.strip.specs.declared.refusal.Section.{Section}
+use Rattle.strip.specs.declared.refusal.Section.the-variants.{Head, Token, Path}
+use Rattle.strip.specs.declared.refusal.Refusal.{Refusal}
+use Rattle.strip.specs.declared.refusal.Refusal.the-variants.{Height, Short, Number, NoStrip}
+
+abbrev pub section-number : Section → ℕ
+section-number Head = 1
+section-number Token = 2
+section-number Path = 3
+
+-- the number of a refusal, and the values that it returns
+abbrev pub numbered : Refusal → ℕ × List ℕ
+numbered (Height h) = (1, h ∷ [])
+numbered (Short needed) = (7, needed ∷ [])
+numbered (Number n) = (10, n ∷ [])
+numbered (NoStrip f) = (11, f .place ∷ section-number (f .section) ∷ [])
+
+-- Checks in their order, each with the refusal of its failure: the first that fails.
+abbrev pub first-refusal : List (Bool × Refusal) → Option Refusal
+first-refusal [] = None
+first-refusal (check ∷ checks) = cond (check .0) (first-refusal checks) (Some (check .1))
