@@ -1,5 +1,5 @@
 -- Rules for bytes, one after another.
-use mathlib.Core.Path.{_≡_, refl, sym, ap, subst, _∙_}
+use mathlib.Core.Path.{_≡_, refl, sym, ap, ap₂, _∙_}
 use mathlib.Core.List.{List, [], _∷_, _++_}
 use mathlib.Core.Bool.{Bool, true, false, cond}
 use mathlib.Core.Logic.{⊎-elim}
@@ -17,7 +17,7 @@ use Rattle.tree.specs.Meaning.{Meaning}
 use Rattle.strip.specs.declared.refusal.Section.{Section}
 use Rattle.strip.specs.declared.refusal.Section.the-variants.{Path}
 use Rattle.strip.specs.declared.refusal.Fault.{Fault}
-use Rattle.strip.specs.Format.{Rule, fault, first-broken, node-rules}
+use Rattle.strip.specs.Format.{Rule, fault, first-broken, height-in, head-rules, token-rules, count-rules, node-rules, fault-in}
 
 -- the first of two faults
 abbrev pub first : Option Fault → Option Fault → Option Fault
@@ -96,3 +96,16 @@ module _ (bs : List ℕ) where
 
       pub ends-surplus : i ≡ H → (length rest ≡ 0 → ⊥) → first-broken bs (node-rules m bs 41 H) ≡ Some (fault p Path)
       ends-surplus done some = let s = size in sym (last done) ∙ rule-broken _ [] (so-far .within) (lt-leb (length bs) p (omega arith))
+
+-- the first fault, section by section
+pub fault-is : {N : Type 0} (m : Meaning N) (bs : List ℕ) (k H : ℕ) (a b c d : Option Fault) →
+    k ≡ m .kind → H ≡ height-in bs →
+    first-broken bs (head-rules k bs) ≡ a → first-broken bs (token-rules bs) ≡ b → first-broken bs (count-rules bs) ≡ c → first-broken bs (node-rules m bs 41 H) ≡ d →
+    fault-in m bs ≡ first (first (first a b) c) d
+unfolding fault-in
+fault-is m bs k H a b c d is-kind is-height e f g h =
+    let heads : List Rule = head-rules (m .kind) bs in
+    let head = ap (λ x. first-broken bs (head-rules x bs)) (sym is-kind) ∙ e in
+    let nodes = ap (λ x. first-broken bs (node-rules m bs 41 x)) (sym is-height) ∙ h in
+    rules-then bs (heads ++ token-rules bs ++ count-rules bs) (node-rules m bs 41 (height-in bs))
+    ∙ ap₂ first (rules-then bs (heads ++ token-rules bs) (count-rules bs) ∙ ap₂ first (rules-then bs heads (token-rules bs) ∙ ap₂ first head f) g) nodes

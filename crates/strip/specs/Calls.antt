@@ -15,10 +15,11 @@ use Rattle.tree.specs.Meaning.{Meaning, Meter, One-spelling, after}
 use Rattle.tree.specs.Numbers.{legal-height}
 use Rattle.tree.specs.Tree.{root-of, path-of}
 use Rattle.tree.specs.Path.{leads-to, nodes-of}
+use Rattle.strip.specs.declared.parse.Strip.{Strip}
 use Rattle.strip.specs.declared.refusal.Refusal.{Refusal}
 use Rattle.strip.specs.declared.refusal.Refusal.the-variants.{Height, Short, Number, NoStrip}
 use Rattle.strip.specs.Format.{strip-bytes, height-in, number-in, token-in, path-in, fault-in}
-use Rattle.strip.specs.Refusals.{first-refusal}
+use Rattle.strip.specs.Refusals.{first-refusal, or-else}
 
 -- how long a strip is
 abbrev pub strip-length : {N : Type 0} → Meaning N → ℕ → ℕ
@@ -48,10 +49,46 @@ write-refusal m H n siblings secret out = first-refusal (
 
 -- Writing: the strip's bytes at the front and the rest as it was; and they read back as what was written.
 abbrev pub Writes : {N : Type 0} → Meaning N → ℕ → ℕ → List N → List ℕ → List ℕ → List ℕ → Result ℕ Refusal → Type 0
-Writes m H n siblings secret before now (Ok long) =
+Writes m H n siblings secret before later (Ok long) =
     (write-refusal m H n siblings secret before ≡ None)
     × (long ≡ strip-length m H)
-    × (now ≡ strip-bytes m H n (take 32 secret) (take H siblings) ++ drop long before)
-    × Holds m (take long now) H n (take 32 secret) (take H siblings)
-Writes m H n siblings secret before now (Err r) =
-    (write-refusal m H n siblings secret before ≡ Some r) × (now ≡ before)
+    × (later ≡ strip-bytes m H n (take 32 secret) (take H siblings) ++ drop long before)
+    × Holds m (take long later) H n (take 32 secret) (take H siblings)
+Writes m H n siblings secret before later (Err r) =
+    (write-refusal m H n siblings secret before ≡ Some r) × (later ≡ before)
+
+-- Which refusal reading comes to, if any: the first fault of the bytes, then too few cells.
+abbrev pub read-refusal : {N : Type 0} → Meaning N → List ℕ → List N → Option Refusal
+read-refusal m bs cells =
+    or-else (fault-in m bs) (first-refusal ((leb (height-in bs) (length cells), Short (height-in bs)) ∷ []))
+
+-- Reading: the parts of the bytes, and the path's nodes in the first cells, the others as they were.
+abbrev pub ReadsStrip : {N : Type 0} → Meaning N → List ℕ → List N → List N → Result Strip Refusal → Type 0
+ReadsStrip m bs before later (Ok s) =
+    (read-refusal m bs before ≡ None)
+    × (s .height ≡ height-in bs) × (s .number ≡ number-in bs)
+    × (now (s .token) ≡ token-in bs) × (now (s .path) ≡ path-in bs)
+    × (later ≡ nodes-in m bs ++ drop (height-in bs) before)
+ReadsStrip m bs before later (Err r) = (read-refusal m bs before ≡ Some r) × (later ≡ before)
+
+-- Over a maker of one spelling, a strip that was read and is written again has its old bytes.
+abbrev pub Spells-back : {N : Type 0} → Meaning N → List ℕ → List N → Result Strip Refusal → Type 0
+Spells-back m bs cells (Ok s) = One-spelling m → strip-bytes m (s .height) (s .number) (now (s .token)) (take (s .height) cells) ≡ bs
+Spells-back m bs cells (Err r) = Unit {0}
+
+-- where a strip's token and path lead
+abbrev pub leads : {N : Type 0} → Meaning N → List ℕ → N
+leads m bs = leads-to (m .join) (number-in bs) (m .leaf (number-in bs) (token-in bs)) (nodes-in m bs)
+
+-- Checking: whether the strip leads to the given root, after one leaf and H joins; no node is made for a
+-- refusal.
+abbrev pub Checks : {N : Type 0} → Meaning N → List ℕ → N → Meter → Meter → Result Bool Refusal → Type 0
+Checks m bs top before later (Ok verdict) =
+    (fault-in m bs ≡ None) × Decides verdict (leads m bs ≡ top) × (later ≡ after 1 (height-in bs) before)
+Checks m bs top before later (Err r) = (or-else (fault-in m bs) None ≡ Some r) × (later ≡ before)
+
+-- Every strip of the full tree is accepted against that tree's root.
+abbrev pub Accepts-full-tree : {N : Type 0} → Meaning N → List ℕ → N → Result Bool Refusal → Type 0
+Accepts-full-tree m bs top r =
+    (tokens : ℕ → List ℕ) (H n : ℕ) → legal-height H ≡ true → n < 2 ^ H → length (tokens n) ≡ 32 →
+    bs ≡ strip-bytes m H n (tokens n) (path-of m tokens H n) → top ≡ root-of m tokens H → r ≡ Ok true

@@ -15,7 +15,7 @@ use Rattle.strip.specs.declared.refusal.Section.the-variants.{Head, Token, Pat
 use Rattle.strip.specs.declared.refusal.Fault.{Fault}
 
 -- The strip of a number in a tree of height H: three sections, each after its count byte.
-abbrev pub strip-bytes : {N : Type 0} → Meaning N → ℕ → ℕ → List ℕ → List N → List ℕ
+unfoldable pub strip-bytes : {N : Type 0} → Meaning N → ℕ → ℕ → List ℕ → List N → List ℕ
 strip-bytes m H n secret siblings =
     (6 ∷ m .kind ∷ H ∷ number-bytes n)
     ++ (32 ∷ secret)
@@ -79,5 +79,5 @@ abbrev pub count-rules : List ℕ → List Rule
 count-rules bs = rule Path 40 41 (eqb (getD bs 40 0) (height-in bs)) ∷ []
 
 -- What is wrong with bytes that should be a strip, if anything is.
-abbrev pub fault-in : {N : Type 0} → Meaning N → List ℕ → Option Fault
+unfoldable pub fault-in : {N : Type 0} → Meaning N → List ℕ → Option Fault
 fault-in m bs = first-broken bs (head-rules (m .kind) bs ++ token-rules bs ++ count-rules bs ++ node-rules m bs 41 (height-in bs))

@@ -6,6 +6,7 @@ use Rattle.std.specs.declared.option.Option.{Option}
 use Rattle.std.specs.declared.option.Option.the-variants.{Some, None}
 use Rattle.strip.specs.declared.refusal.Section.{Section}
 use Rattle.strip.specs.declared.refusal.Section.the-variants.{Head, Token, Path}
+use Rattle.strip.specs.declared.refusal.Fault.{Fault}
 use Rattle.strip.specs.declared.refusal.Refusal.{Refusal}
 use Rattle.strip.specs.declared.refusal.Refusal.the-variants.{Height, Short, Number, NoStrip}
 
@@ -25,3 +26,8 @@ numbered (NoStrip f) = (11, f .place ∷ section-number (f .section) ∷ [])
 abbrev pub first-refusal : List (Bool × Refusal) → Option Refusal
 first-refusal [] = None
 first-refusal (check ∷ checks) = cond (check .0) (first-refusal checks) (Some (check .1))
+
+-- the refusal of a fault in a strip's bytes, or else another
+abbrev pub or-else : Option Fault → Option Refusal → Option Refusal
+or-else None o = o
+or-else (Some f) o = Some (NoStrip f)

@@ -1,4 +1,6 @@
 // Proof strips: written, read, and checked against the root of a tree.
+pub mod check;
 pub mod parse;
+pub mod read;
 pub mod refusal;
-pub mod write;
+

@@ -1,3 +1,6 @@
+ghost use mathlib.Core.Path.{_≡_};
+ghost use Rattle.strip.specs.declared.refusal.Refusal.the-variants.{NoStrip};
+
 // The sections of a strip.
 #[derive(Clone, Copy, Debug, PartialEq)]
 pub enum Section {
@@ -24,4 +27,12 @@ pub enum Refusal {
     Number(u32),
     // The bytes are no strip.
     NoStrip(Fault),
+}
+
+pub impl From<Fault> for Refusal as RefusalFromFault {
+    ghost converts = { λ f r. r ≡ NoStrip f };
+
+    fn from(fault: Fault) -> Refusal {
+        Refusal::NoStrip(fault)
+    }
 }

@@ -7,6 +7,7 @@ use native.Mathlib.Omega.{arith}
 use native.Mathlib.Nat.{add-zero, zero-add, div-one, div-eq-of-lt}
 use native.Mathlib.Numerals.{add-one}
 use lib.Dec.{eqb}
+use lib.ListN.{length}
 use lib.Pow.{shr-shr}
 use Rattle.std.proofs.shelf.Tests.{eqb-true, eqb-false}
 use Rattle.tree.specs.Meaning.{Meaning}
@@ -31,6 +32,10 @@ module _ {N : Type 0} (m : Meaning N) (tokens : ℕ → List ℕ) where
       let left : a - 1 ≡ 2 * (a / 2) = omega arith in
       let right : a ≡ 2 * (a / 2) + 1 = omega arith in
       ap₂ (m .join) (ap (node-at m tokens t) left) (ap (node-at m tokens t) right)
+
+  pub length-siblings : (n t k : ℕ) → length (siblings m tokens n t k) ≡ k
+  length-siblings n t zero = refl
+  length-siblings n t (suc k) = ap suc (length-siblings n (suc t) k)
 
   pub climbs : (k t n : ℕ) → leads-to (m .join) (n / 2 ^ t) (node-at m tokens t (n / 2 ^ t)) (siblings m tokens n t k) ≡ node-at m tokens (t + k) (n / 2 ^ (t + k))
   climbs zero t n = ap (λ j. node-at m tokens j (n / 2 ^ j)) (sym (add-zero t))

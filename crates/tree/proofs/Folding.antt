@@ -6,22 +6,22 @@ use Prim.Native.Nat.{ℕ, zero, suc, _+_, _-_, _*_, _/_, _%_, _<_, _≤_}
 use native.Mathlib.Omega.{arith}
 use native.Mathlib.Nat.{zero-add, sub-zero, mul-comm, add-mul, one-mul}
 use lib.Dec.{eqb}
-use lib.ListN.{length, take, drop, length-drop}
+use lib.ListN.{length, drop, length-drop}
 use Rattle.std.proofs.shelf.Tests.{cond-true, cond-false, eq-eqb, ne-eqb}
 use Rattle.std.proofs.shelf.Bits.{div-add-mod', mul-le}
 use Rattle.std.specs.declared.option.Option.{Option}
 use Rattle.std.specs.declared.option.Option.the-variants.{Some, None}
 use Rattle.tree.specs.Meaning.{Meaning}
-use Rattle.tree.specs.Path.{parent, leads-to, and-then, nodes-of, path-nodes, folded}
+use Rattle.tree.specs.Path.{parent, leads-to, and-then, front-node, nodes-of, path-nodes, folded}
 
 module _ {N : Type 0} (m : Meaning N) where
   -- bytes whose first node is known
-  pub nodes-more : (k i : ℕ) (bytes : List ℕ) (y : N) → i < k → Some y ≡ m .read (take (m .width) bytes) → nodes-of m (k - i) bytes ≡ y ∷ nodes-of m (k - (i + 1)) (drop (m .width) bytes)
+  pub nodes-more : (k i : ℕ) (bytes : List ℕ) (y : N) → i < k → Some y ≡ front-node m bytes → nodes-of m (k - i) bytes ≡ y ∷ nodes-of m (k - (i + 1)) (drop (m .width) bytes)
   nodes-more k i bytes y lt e =
       let one : k - i ≡ suc (k - (i + 1)) = omega arith in
       ap (λ j. nodes-of m j bytes) one ∙ ap (λ (o : Option N). and-then o (nodes-of m (k - (i + 1)) (drop (m .width) bytes))) (sym e)
 
-  pub nodes-stop : (k i : ℕ) (bytes : List ℕ) → i < k → None ≡ m .read (take (m .width) bytes) → nodes-of m (k - i) bytes ≡ []
+  pub nodes-stop : (k i : ℕ) (bytes : List ℕ) → i < k → None ≡ front-node m bytes → nodes-of m (k - i) bytes ≡ []
   nodes-stop k i bytes lt e =
       let one : k - i ≡ suc (k - (i + 1)) = omega arith in
       ap (λ j. nodes-of m j bytes) one ∙ ap (λ (o : Option N). and-then o (nodes-of m (k - (i + 1)) (drop (m .width) bytes))) (sym e)
@@ -49,7 +49,7 @@ module _ {N : Type 0} (m : Meaning N) where
         let one : (i + 1) * m .width ≡ i * m .width + m .width = simp (add-mul, one-mul) in
         omega (arith, so-far .left)
 
-    pub climbed-more : i < length path / m .width → (y : N) → Some y ≡ m .read (take (m .width) rest) → Climbed number leaf path (i + 1) (index / 2) (parent (m .join) index x y) (drop (m .width) rest)
+    pub climbed-more : i < length path / m .width → (y : N) → Some y ≡ front-node m rest → Climbed number leaf path (i + 1) (index / 2) (parent (m .join) index x y) (drop (m .width) rest)
     climbed-more lt y e =
         let long = room lt in
         let k : ℕ = length path / m .width in
@@ -61,7 +61,7 @@ module _ {N : Type 0} (m : Meaning N) where
           left = omega (arith, length-drop (m .width) rest, so-far .left);
         }
 
-    pub folded-stop : 1 ≤ m .width → i < length path / m .width → None ≡ m .read (take (m .width) rest) → (length (path-nodes m path) ≡ i) × (folded m number leaf path ≡ None)
+    pub folded-stop : 1 ≤ m .width → i < length path / m .width → None ≡ front-node m rest → (length (path-nodes m path) ≡ i) × (folded m number leaf path ≡ None)
     folded-stop some lt e =
         let long = room lt in
         let stop = nodes-stop (length path / m .width) i rest lt e in

@@ -5,16 +5,16 @@ use Prim.Native.Nat.{ℕ, zero, suc, _+_, _-_, _*_, _/_, _%_, _^_, _<_, _≤_}
 use native.Mathlib.Omega.{arith}
 use native.Mathlib.Nat.{zero-mul, add-mul, one-mul, add-comm, mul-comm}
 use native.Mathlib.Numerals.{add-one, one-add}
-use lib.Dec.{eqb}
+use lib.Dec.{eqb, ltb}
 use lib.ListN.{length, take, drop, length-append}
 use Rattle.std.proofs.shelf.Lists.{append-assoc, append-nil, take-at, drop-at}
-use Rattle.std.proofs.shelf.Tests.{cond-true, eq-eqb}
+use Rattle.std.proofs.shelf.Tests.{cond-true, cond-false, eq-eqb, le-ltb}
 use Rattle.std.proofs.shelf.Bits.{div-mul-add}
 use Rattle.std.specs.declared.option.Option.{Option}
 use Rattle.std.specs.declared.option.Option.the-variants.{Some, None}
 use Rattle.tree.specs.Meaning.{Meaning, Lawful}
 use Rattle.tree.specs.Tree.{root-of, siblings, path-of}
-use Rattle.tree.specs.Path.{leads-to, path-bytes, and-then, nodes-of, path-nodes, folded, Folds-to-root}
+use Rattle.tree.specs.Path.{leads-to, path-bytes, and-then, front-node, nodes-of, path-nodes, folded, Folds-to-root}
 use Rattle.tree.proofs.Climbing.{path-leads-to-root}
 
 module _ {N : Type 0} (m : Meaning N) (ok : Lawful m) where
@@ -27,14 +27,22 @@ module _ {N : Type 0} (m : Meaning N) (ok : Lawful m) where
       let one : suc (length xs) * m .width ≡ length xs * m .width + m .width = simp (← add-one) (simp (add-mul, one-mul)) in
       omega arith
 
+  -- a node that was put is the node at the front
+  pub front-node-put : (x : N) (rest : List ℕ) → front-node m (m .put x ++ rest) ≡ Some x
+  front-node-put x rest =
+      let width = ok .fills x in
+      let size = length-append (m .put x) rest in
+      cond-false (ltb (length (m .put x ++ rest)) (m .width)) None _ (le-ltb _ _ (omega arith))
+      ∙ ap (m .read) (take-at (m .put x) rest (m .width) width) ∙ ok .reads-back x
+
   -- bytes of nodes read as those nodes, whatever follows
   pub nodes-of-path-bytes : (xs : List N) (rest : List ℕ) → nodes-of m (length xs) (path-bytes m xs ++ rest) ≡ xs
   nodes-of-path-bytes [] rest = refl
   nodes-of-path-bytes (x ∷ xs) rest =
       let split = append-assoc (m .put x) (path-bytes m xs) rest in
-      let front = ap (take (m .width)) split ∙ take-at (m .put x) (path-bytes m xs ++ rest) (m .width) (ok .fills x) in
+      let front = ap (front-node m) split ∙ front-node-put x (path-bytes m xs ++ rest) in
       let back = ap (drop (m .width)) split ∙ drop-at (m .put x) (path-bytes m xs ++ rest) (m .width) (ok .fills x) in
-      ap₂ and-then (ap (m .read) front ∙ ok .reads-back x) (ap (nodes-of m (length xs)) back ∙ nodes-of-path-bytes xs rest)
+      ap₂ and-then front (ap (nodes-of m (length xs)) back ∙ nodes-of-path-bytes xs rest)
 
   pub path-nodes-of-bytes : (xs : List N) → path-nodes m (path-bytes m xs) ≡ xs
   path-nodes-of-bytes xs =

@@ -3,7 +3,7 @@ use mathlib.Core.Path.{_≡_}
 use mathlib.Core.List.{List, [], _∷_, _++_}
 use mathlib.Core.Bool.{cond}
 use Prim.Native.Nat.{ℕ, zero, suc, _+_, _*_, _/_, _%_, _^_, _<_}
-use lib.Dec.{eqb}
+use lib.Dec.{eqb, ltb}
 use lib.ListN.{length, take, drop}
 use Rattle.std.specs.declared.option.Option.{Option}
 use Rattle.std.specs.declared.option.Option.the-variants.{Some, None}
@@ -29,10 +29,14 @@ abbrev pub and-then : {N : Type 0} → Option N → List N → List N
 and-then None xs = []
 and-then (Some x) xs = x ∷ xs
 
--- the nodes that bytes begin with: at most k, and none from the first that reads as none
+-- the node that bytes begin with, if they are long enough and it reads as one
+abbrev pub front-node : {N : Type 0} → Meaning N → List ℕ → Option N
+front-node m bytes = cond (ltb (length bytes) (m .width)) None (m .read (take (m .width) bytes))
+
+-- the nodes that bytes begin with, at most k, up to the first place where there is none
 abbrev pub nodes-of : {N : Type 0} → Meaning N → ℕ → List ℕ → List N
 nodes-of m zero bytes = []
-nodes-of m (suc k) bytes = and-then (m .read (take (m .width) bytes)) (nodes-of m k (drop (m .width) bytes))
+nodes-of m (suc k) bytes = and-then (front-node m bytes) (nodes-of m k (drop (m .width) bytes))
 
 -- the nodes of a path given as bytes
 abbrev pub path-nodes : {N : Type 0} → Meaning N → List ℕ → List N

@@ -1,8 +1,9 @@
 ghost use mathlib.Core.Path.{_≡_};
 ghost use Prim.Native.Nat.{_≤_};
-ghost use lib.ListN.{length, take};
+ghost use lib.ListN.{length};
+ghost use Rattle.std.specs.Options.{Cases as BySome};
 ghost use Rattle.tree.specs.Meaning.{after};
-ghost use Rattle.tree.specs.Path.{parent, path-nodes, folded, Folds-to-root};
+ghost use Rattle.tree.specs.Path.{parent, front-node, path-nodes, folded, Folds-to-root};
 use crate::maker::Maker;
 
 // Folds a path, given as bytes, from a node of the given index up: answers the root that it leads to, or
@@ -18,7 +19,7 @@ pub fn fold<M: Maker>(maker: &mut M, number: u32, leaf: M::Node, path: &[u8]) ->
     let mut node = leaf;
     let mut rest = path;
     for _ in 0..path.len() / width {
-        let sibling = first_node(maker, rest)?;
+        let sibling = front_node(maker, rest)?;
         node = join_with(maker, index, node, sibling);
         index /= 2;
         rest = &rest[width..];
@@ -26,13 +27,13 @@ pub fn fold<M: Maker>(maker: &mut M, number: u32, leaf: M::Node, path: &[u8]) ->
     if rest.is_empty() { Some(node) } else { None }
 }
 
-// The node that the bytes begin with, where they are long enough and it reads as one.
-fn first_node<M: Maker>(maker: &M, bytes: &[u8]) -> Option<M::Node>
-    requires { ⌜ meaning (now maker) .width ≤ length (now bytes) ⌝ }
-    ensures { λ r. ⌜ r ≡ meaning (now (maker .entry)) .read (take (meaning (now (maker .entry)) .width) (now (bytes .entry))) ⌝ }
+// The node that the bytes begin with, if they are long enough and it reads as one.
+pub fn front_node<M: Maker>(maker: &M, bytes: &[u8]) -> Option<M::Node>
+    ensures value { λ r. ⌜ r ≡ front-node (meaning (now (maker .entry))) (now (bytes .entry)) ⌝ }
+    ensures room { λ r. ⌜ BySome r (Unit {0}) (λ _. meaning (now (maker .entry)) .width ≤ length (now (bytes .entry))) ⌝ }
 {
     match maker.read(bytes) {
-        Ok(found) => found,
+        Ok(node) => node,
         Err(_) => None,
     }
 }

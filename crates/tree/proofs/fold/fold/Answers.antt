@@ -2,11 +2,11 @@ use borrow.Author.Needs.{needs}
 use native.Mathlib.Omega.{arith}
 use mathlib.Core.Path.{_≡_, refl, sym, ap, _∙_}
 use Prim.Native.Nat.{_/_}
-use lib.ListN.{length, take, drop}
+use lib.ListN.{length, drop}
 use Rattle.std.proofs.shelf.Lists.{take-rest}
 use Rattle.std.proofs.shelf.Tests.{eqb-true, eqb-false}
 use Rattle.tree.specs.Meaning.{after}
-use Rattle.tree.specs.Path.{parent}
+use Rattle.tree.specs.Path.{parent, front-node}
 use Rattle.tree.proofs.Metering.{after-after, after-none}
 use Rattle.tree.proofs.Folding.{climbed-none, room, climbed-more, folded-stop, folded-all, folded-some, folded-none}
 use Rattle.tree.proofs.Nodes.{folds-to-root}
@@ -17,21 +17,12 @@ loop-holds g c =
     let m = g .M·Maker in
     (refl, sym (after-none (m .meter (c .args .maker .now)) (g .M·Maker·met .wraps (c .args .maker .now))), climbed-none (m .meaning (c .args .maker .now)) (c .args .number) (c .args .leaf) (c .args .path .now))
 
-pub first-node-requires : need.first-node-requires
-first-node-requires g c κs =
-    let m = g .M·Maker in
-    let w = ap (λ k. k .width) (c .loop .inv .0) in
-    let lt = rw (c .width-width .ensures) at (c .loop-test .taken) in
-    let long = room (m .meaning (c .args .maker .now)) (c .loop .inv .2) lt in
-    omega arith
-
 pub returns-in-Break-sibling : need.returns-in-Break-sibling
 returns-in-Break-sibling g c =
     let m = g .M·Maker in
     let inv = c .loop .inv in
     let lt = rw (c .width-width .ensures) at (c .loop-test .taken) in
-    let e = c .in-Break-sibling .ensures tt in
-    let none = e ∙ ap (λ k. k .read (take (k .width) (c .loop .rest .now))) (inv .0) in
+    let none = c .in-Break-sibling .ensures tt .value ∙ ap (λ k. front-node k (c .loop .rest .now)) (inv .0) in
     let stop = folded-stop (m .meaning (c .args .maker .now)) (inv .2) (g .M·Maker·met .lawful (c .args .maker .now) .at-least) lt none in
     let value = c .from-residual .ensures ∙ sym (stop .1) in
     record {
@@ -58,8 +49,7 @@ loop-again g c =
     let m = g .M·Maker in
     let inv = c .loop .inv in
     let lt = rw (c .width-width .ensures) at (c .loop-test .taken) in
-    let e = c .in-Continue-sibling .ensures tt in
-    let some = e ∙ ap (λ k. k .read (take (k .width) (c .loop .rest .now))) (inv .0) in
+    let some = c .in-Continue-sibling .ensures tt .value ∙ ap (λ k. front-node k (c .loop .rest .now)) (inv .0) in
     let up = c .join-with-node .ensures in
     let step = climbed-more (m .meaning (c .args .maker .now)) (inv .2) lt (c .in-Continue-sibling .sibling) some in
     let value = up .value ∙ ap (λ k. parent (k .join) (c .loop .index) (c .loop .node) (c .in-Continue-sibling .sibling)) (inv .0) in
