@@ -4,3 +4,4 @@ pub mod Filling
 pub mod Written
 pub mod Spelling
 pub mod Leading
+pub mod Appending

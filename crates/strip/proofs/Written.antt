@@ -1,14 +1,15 @@
 -- The bytes of a strip have no fault and hold what was written.
-use mathlib.Core.Path.{_≡_, refl, sym, ap, ap₂, _∙_}
+use mathlib.Core.Path.{_≡_, refl, sym, ap, ap₂, subst, _∙_}
 use mathlib.Core.List.{List, [], _∷_, _++_}
-use mathlib.Core.Bool.{true}
+use mathlib.Core.Bool.{Bool, true, cond}
+use mathlib.Core.Logic.{⊎-elim}
 use Prim.Native.Nat.{ℕ, zero, suc, _+_, _-_, _*_, _^_, _<_, _≤_}
 use native.Mathlib.Omega.{arith}
 use lib.Dec.{leb, ltb, eqb}
 use lib.ListN.{length, getD, take, drop, length-append}
 use lib.Pow.{pow-mono}
-use Rattle.std.proofs.shelf.Lists.{take-at, drop-at, getD-at, append-nil, drop-drop}
-use Rattle.std.proofs.shelf.Tests.{and-parts, leb-true, ltb-true, eq-eqb}
+use Rattle.std.proofs.shelf.Lists.{take-at, drop-at, getD-at, append-nil, append-assoc, drop-drop, length-take-le}
+use Rattle.std.proofs.shelf.Tests.{and-parts, leb-true, ltb-true, eq-eqb, cases-bool, cond-true, cond-false}
 use Rattle.std.specs.declared.option.Option.the-variants.{Some, None}
 use Rattle.tree.specs.Meaning.{Meaning, Lawful}
 use Rattle.tree.specs.Numbers.{number-bytes, number-at, legal-height}
@@ -16,7 +17,11 @@ use Rattle.tree.specs.Path.{path-bytes, nodes-of}
 use Rattle.tree.proofs.Nodes.{length-path-bytes, nodes-of-path-bytes}
 use Rattle.tree.proofs.Numbering.{number-at-bytes}
 use Rattle.strip.specs.Format.{strip-bytes, height-in, number-in, token-in, path-in, first-broken, head-rules, token-rules, count-rules, node-rules, fault-in}
-use Rattle.strip.specs.Calls.{strip-length, nodes-in, Holds}
+use Rattle.strip.specs.Calls.{strip-length, nodes-in, Holds, write-checks, Refuses, Appends, Writes}
+use Rattle.strip.specs.Refusals.{first-refusal}
+use Rattle.strip.specs.declared.refusal.Refusal.{Refusal}
+use Rattle.std.specs.declared.result.Result.the-variants.{Ok, Err}
+use Rattle.strip.proofs.Appending.{appends-then, appends-all, appends-front}
 use Rattle.strip.proofs.Rules.{fault-is}
 use Rattle.strip.proofs.Faultless.{no-fault, nodes-faultless}
 
@@ -89,3 +94,47 @@ module _ {N : Type 0} (m : Meaning N) (ok : Lawful m) (H n : ℕ) (secret : List
         token = token-at;
         path = ap₂ (nodes-of m) (height-at ∙ sym many) (path-at ∙ sym (append-nil (path-bytes m siblings))) ∙ nodes-of-path-bytes m ok siblings [];
       }
+
+-- checks that all passed
+abbrev pub Passed : List (Bool × Refusal) → Type 0
+Passed [] = Unit {0}
+Passed (check ∷ checks) = (check .0 ≡ true) × Passed checks
+
+pub passed : (checks : List (Bool × Refusal)) → first-refusal checks ≡ None → Passed checks
+passed [] e = tt
+passed (check ∷ checks) e =
+    ⊎-elim (λ good. (good, passed checks (sym (cond-true (check .0) (first-refusal checks) (Some (check .1)) good) ∙ e)))
+      (λ bad.
+        let some = sym (cond-false (check .0) (first-refusal checks) (Some (check .1)) bad) ∙ e in
+        let z : _≡_ {A = ℕ} 0 1 = cc in
+        absurd (omega arith))
+      (cases-bool (check .0))
+
+-- the parts of a strip, put one after another
+pub strip-row : {N : Type 0} (m : Meaning N) (H n k : ℕ) (num secret : List ℕ) (siblings : List N) {out a b c d e f : List ℕ} {p q r s t u : ℕ} →
+    k ≡ m .kind → num ≡ number-bytes n →
+    Appends out 0 (6 ∷ k ∷ H ∷ []) a p → Appends a p num b q → Appends b q (32 ∷ []) c r → Appends c r secret d s → Appends d s (H ∷ []) e t → Appends e t (path-bytes m siblings) f u →
+    Appends out 0 (strip-bytes m H n secret siblings) f u
+unfolding strip-bytes
+strip-row m H n k num secret siblings {out} {f = f} {u = u} is-kind is-number one two three four five six =
+    let all = appends-then (appends-then (appends-then (appends-then (appends-then one two) three) four) five) six in
+    let same = (λ i. 6 ∷ is-kind i ∷ H ∷ ((((is-number i ++ 32 ∷ []) ++ secret) ++ H ∷ []) ++ path-bytes m siblings))
+      ∙ ap (λ l. 6 ∷ m .kind ∷ H ∷ (number-bytes n ++ 32 ∷ l)) (append-assoc secret (H ∷ []) (path-bytes m siblings)) in
+    subst (λ l. Appends out 0 l f u) same all
+
+-- what writing leaves, once the bytes are there
+pub written : {N : Type 0} (m : Meaning N) → Lawful m → (H n : ℕ) (siblings : List N) (secret before later : List ℕ) (long end : ℕ) →
+    Refuses m H n (length siblings) (length secret) (length before) (Ok long) →
+    Appends before 0 (strip-bytes m H n (take 32 secret) (take H siblings)) later end →
+    Writes m H n siblings secret before later (Ok long)
+written m ok H n siblings secret before later long end room all =
+    let checks = passed (write-checks m H n (length siblings) (length secret) (length before)) (room .0) in
+    let cells = length-take-le H siblings (leb-true H (length siblings) (checks .1 .1 .0)) in
+    let token = length-take-le 32 secret (leb-true 32 (length secret) (checks .1 .1 .1 .0)) in
+    let size = length-strip m ok H n (take 32 secret) (take H siblings) token cells in
+    let last = all .end-is in
+    let at : end ≡ long = let needed = room .1 in omega arith in
+    let now-is = appends-all all ∙ ap (λ k. strip-bytes m H n (take 32 secret) (take H siblings) ++ drop k before) at in
+    let front = sym (ap (λ k. take k later) (sym at) ∙ appends-front all) in
+    let whole = holds m ok H n (take 32 secret) (take H siblings) token cells (checks .0) (checks .1 .0) in
+    (room .0, room .1, now-is, subst (λ bs. Holds m bs H n (take 32 secret) (take H siblings)) front whole)

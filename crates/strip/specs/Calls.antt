@@ -37,25 +37,39 @@ pub record Holds {N : Type 0} (m : Meaning N) (bs : List ℕ) (H n : ℕ) (secre
   pub token : token-in bs ≡ secret
   pub path : nodes-in m bs ≡ siblings
 
--- Which refusal writing comes to, if any: the checks in their order.
-abbrev pub write-refusal : {N : Type 0} → Meaning N → ℕ → ℕ → List N → List ℕ → List ℕ → Option Refusal
-write-refusal m H n siblings secret out = first-refusal (
+-- What writing checks, in this order, by the lengths of the path, the token and the output; and which refusal
+-- it comes to, if any.
+abbrev pub write-checks : {N : Type 0} → Meaning N → ℕ → ℕ → ℕ → ℕ → ℕ → List (Bool × Refusal)
+write-checks m H n cells secret out =
     (legal-height H, Height H)
     ∷ (ltb n (2 ^ H), Number n)
-    ∷ (leb H (length siblings), Short H)
-    ∷ (leb 32 (length secret), Short 32)
-    ∷ (leb (strip-length m H) (length out), Short (strip-length m H))
-    ∷ [])
+    ∷ (leb H cells, Short H)
+    ∷ (leb 32 secret, Short 32)
+    ∷ (leb (strip-length m H) out, Short (strip-length m H))
+    ∷ []
+
+abbrev pub write-refusal : {N : Type 0} → Meaning N → ℕ → ℕ → ℕ → ℕ → ℕ → Option Refusal
+write-refusal m H n cells secret out = first-refusal (write-checks m H n cells secret out)
+
+abbrev pub Refuses : {N : Type 0} → Meaning N → ℕ → ℕ → ℕ → ℕ → ℕ → Result ℕ Refusal → Type 0
+Refuses m H n cells secret out (Ok long) = (write-refusal m H n cells secret out ≡ None) × (long ≡ strip-length m H)
+Refuses m H n cells secret out (Err r) = write-refusal m H n cells secret out ≡ Some r
+
+-- Bytes put at a place, up to an end: what stood before and after them is kept.
+pub record Appends (before : List ℕ) (at : ℕ) (bytes later : List ℕ) (end : ℕ) : Type 0 where
+  pub end-is : end ≡ at + length bytes
+  pub front : take end later ≡ take at before ++ bytes
+  pub back : drop end later ≡ drop end before
 
 -- Writing: the strip's bytes at the front and the rest as it was; and they read back as what was written.
 abbrev pub Writes : {N : Type 0} → Meaning N → ℕ → ℕ → List N → List ℕ → List ℕ → List ℕ → Result ℕ Refusal → Type 0
 Writes m H n siblings secret before later (Ok long) =
-    (write-refusal m H n siblings secret before ≡ None)
+    (write-refusal m H n (length siblings) (length secret) (length before) ≡ None)
     × (long ≡ strip-length m H)
     × (later ≡ strip-bytes m H n (take 32 secret) (take H siblings) ++ drop long before)
     × Holds m (take long later) H n (take 32 secret) (take H siblings)
 Writes m H n siblings secret before later (Err r) =
-    (write-refusal m H n siblings secret before ≡ Some r) × (later ≡ before)
+    (write-refusal m H n (length siblings) (length secret) (length before) ≡ Some r) × (later ≡ before)
 
 -- Which refusal reading comes to, if any: the first fault of the bytes, then too few cells.
 abbrev pub read-refusal : {N : Type 0} → Meaning N → List ℕ → List N → Option Refusal

@@ -3,4 +3,4 @@ pub mod check;
 pub mod parse;
 pub mod read;
 pub mod refusal;
-
+pub mod write;
