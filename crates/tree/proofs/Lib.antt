@@ -5,3 +5,4 @@ pub mod Nodes
 pub mod Aligning
 pub mod Spanning
 pub mod Numbering
+pub mod Sealing

@@ -3,3 +3,4 @@ pub mod Tree
 pub mod Path
 pub mod Numbers
 pub mod Spans
+pub mod Digests

@@ -1,10 +1,12 @@
 // Merkle trees over one-time tokens: what makes nodes, what the full tree is, and the fold from a leaf
 // to the root.
 pub mod counter;
+pub mod digest;
 pub mod dummy;
 pub mod fault;
 pub mod fold;
 pub mod height;
 pub mod maker;
+pub mod sealed;
 pub mod span;
 

@@ -1,0 +1,6 @@
+mod Blocks
+pub mod Bytes
+mod Digits
+mod Ending
+pub mod Lengths
+mod Schedule

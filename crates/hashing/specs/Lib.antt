@@ -1,0 +1,4 @@
+pub mod Constants
+pub mod Sha256
+pub mod Stages
+pub mod Words
