@@ -6,9 +6,10 @@ use Prim.Native.Nat.{ℕ, _+_, _-_, _*_, _/_, _^_, _<_, _≤_}
 use native.Mathlib.Omega.{arith}
 use native.Mathlib.Nat.{mul-comm, add-zero}
 use lib.Dec.{eqb, ltb}
-use lib.ListN.{length, drop, length-drop}
+use lib.ListN.{length, take, drop, length-drop}
 use Rattle.std.proofs.shelf.Bits.{div-mul-add}
-use Rattle.std.proofs.shelf.Tests.{cond-true, eq-eqb, lt-ltb}
+use Rattle.std.proofs.shelf.Tests.{cond-true, cond-false, eq-eqb, lt-ltb, le-ltb, both-ways}
+use Rattle.std.proofs.shelf.Lists.{take-all}
 use Rattle.std.specs.declared.option.Option.{Option}
 use Rattle.std.specs.declared.option.Option.the-variants.{Some, None}
 use Rattle.std.specs.declared.result.Result.{Result}
@@ -16,12 +17,12 @@ use Rattle.std.specs.declared.result.Result.the-variants.{Ok, Err}
 use Rattle.tree.specs.Meaning.{Meaning, Lawful, Meter}
 use Rattle.tree.specs.Numbers.{legal-height}
 use Rattle.tree.specs.Tree.{root-of, path-of}
-use Rattle.tree.specs.Path.{leads-to, nodes-of, path-nodes, folded}
+use Rattle.tree.specs.Path.{leads-to, front-node, nodes-of, path-nodes, folded}
 use Rattle.tree.proofs.Climbing.{path-leads-to-root, length-siblings}
 use Rattle.strip.specs.declared.refusal.Refusal.{Refusal}
 use Rattle.strip.specs.Format.{strip-bytes, height-in, number-in, token-in, path-in, fault-in}
 use Rattle.strip.specs.Refusals.{or-else}
-use Rattle.strip.specs.Calls.{nodes-in, leads, Checks, Accepts-full-tree}
+use Rattle.strip.specs.Calls.{nodes-in, leads, Checks, Accepts-full-tree, Judges}
 use Rattle.strip.proofs.Faultless.{Faultless, faultless}
 use Rattle.strip.proofs.Written.{holds}
 
@@ -71,3 +72,24 @@ module _ {N : Type 0} (m : Meaning N) (lawful : Lawful m) (bs : List ℕ) where
       let none = sym (ap (λ l. or-else (fault-in m l) None) is-strip ∙ ap (λ o. or-else o None) (h .faultless)) ∙ checked .0 in
       let z : _≡_ {A = ℕ} 0 1 = cc in
       absurd (omega arith)
+
+  -- a root in bytes of the right length
+  module _ (top : List ℕ) (long : length top ≡ m .width) where
+    at-root : front-node m top ≡ m .read top
+    at-root =
+        cond-false (ltb (length top) (m .width)) None (m .read (take (m .width) top)) (le-ltb _ _ (omega arith))
+        ∙ ap (m .read) (take-all (m .width) top (omega arith))
+
+    pub judges-none : fault-in m bs ≡ None → None ≡ front-node m top → Judges m top bs (Ok false)
+    judges-none none e =
+        let nothing = sym at-root ∙ sym e in
+        (none, long, ((λ f. absurd (both-ways false refl f)), λ found. let z : _≡_ {A = ℕ} 0 1 = cc in absurd (omega arith)))
+
+    pub judges : fault-in m bs ≡ None → (x : N) → Some x ≡ front-node m top → (before later : Meter) (r : Result Bool Refusal) → Checks m bs x before later r → Judges m top bs r
+    judges none x e before later (Ok verdict) checked =
+        let found = sym at-root ∙ sym e in
+        (none, long, ((λ yes. found ∙ ap Some (sym (checked .1 .0 yes))), λ is. checked .1 .1 (let same : leads m bs ≡ x = cc in same)))
+    judges none x e before later (Err r) checked =
+        let refused = sym (ap (λ o. or-else o None) none) ∙ checked .0 in
+        let z : _≡_ {A = ℕ} 0 1 = cc in
+        absurd (omega arith)

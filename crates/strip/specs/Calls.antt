@@ -3,10 +3,10 @@ use mathlib.Core.Path.{_≡_}
 use mathlib.Core.List.{List, [], _∷_, _++_}
 use mathlib.Core.Bool.{Bool, true, false}
 use Prim.Native.Nat.{ℕ, _+_, _*_, _^_, _≤_, _<_}
-use lib.Dec.{leb, ltb}
+use lib.Dec.{eqb, leb, ltb}
 use lib.ListN.{length, getD, take, drop}
 use denote.Ref.{now}
-use Rattle.std.specs.Orderings.{Decides}
+use Rattle.std.specs.Orderings.{Decides, When}
 use Rattle.std.specs.declared.option.Option.{Option}
 use Rattle.std.specs.declared.option.Option.the-variants.{Some, None}
 use Rattle.std.specs.declared.result.Result.{Result}
@@ -15,6 +15,8 @@ use Rattle.tree.specs.Meaning.{Meaning, Meter, One-spelling, after}
 use Rattle.tree.specs.Numbers.{legal-height}
 use Rattle.tree.specs.Tree.{root-of, path-of}
 use Rattle.tree.specs.Path.{leads-to, nodes-of}
+use Rattle.tree.specs.Spans.{dummy-meaning}
+use Rattle.tree.specs.Digests.{sealed-meaning}
 use Rattle.strip.specs.declared.parse.Strip.{Strip}
 use Rattle.strip.specs.declared.refusal.Refusal.{Refusal}
 use Rattle.strip.specs.declared.refusal.Refusal.the-variants.{Height, Short, Number, NoStrip}
@@ -106,3 +108,15 @@ abbrev pub Accepts-full-tree : {N : Type 0} → Meaning N → List ℕ → N →
 Accepts-full-tree m bs top r =
     (tokens : ℕ → List ℕ) (H n : ℕ) → legal-height H ≡ true → n < 2 ^ H → length (tokens n) ≡ 32 →
     bs ≡ strip-bytes m H n (tokens n) (path-of m tokens H n) → top ≡ root-of m tokens H → r ≡ Ok true
+
+-- Judging a strip against a root in bytes: the strip's fault comes first, then a root of another length than
+-- a node has. Bytes that are no node are the root of no strip.
+abbrev pub Judges : {N : Type 0} → Meaning N → List ℕ → List ℕ → Result Bool Refusal → Type 0
+Judges m top bs (Ok verdict) =
+    (fault-in m bs ≡ None) × (length top ≡ m .width) × Decides verdict (m .read top ≡ Some (leads m bs))
+Judges m top bs (Err r) =
+    or-else (fault-in m bs) (first-refusal ((eqb (length top) (m .width), Short (m .width)) ∷ [])) ≡ Some r
+
+-- The kind byte picks the maker. Where it names none, the sealed maker refuses the strip.
+abbrev pub Judges-by-kind : List ℕ → List ℕ → Result Bool Refusal → Type 0
+Judges-by-kind top bs r = When (eqb (getD bs 1 0) 2) (Judges dummy-meaning top bs r) (Judges sealed-meaning top bs r)

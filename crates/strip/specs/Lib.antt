@@ -2,3 +2,4 @@ pub mod Format
 pub mod Refusals
 pub mod Calls
 pub mod Sections
+pub mod Hex

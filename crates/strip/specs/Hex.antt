@@ -1,0 +1,11 @@
+-- Hex digits: 0 to 9 and a to f, each a byte of text.
+use mathlib.Core.Bool.{cond, _&&_}
+use Prim.Native.Nat.{ℕ, _+_, _-_}
+use lib.Dec.{leb}
+use Rattle.std.specs.declared.option.Option.{Option}
+use Rattle.std.specs.declared.option.Option.the-variants.{Some, None}
+
+abbrev pub digit-value : ℕ → Option ℕ
+digit-value b =
+    cond (leb 48 b && leb b 57) (Some (b - 48))
+    (cond (leb 97 b && leb b 102) (Some (b - 97 + 10)) None)
