@@ -1,13 +1,10 @@
 // Checks a printed proof strip against a root: reads the root and the strip in hex, a line each, and
 // prints the verdict.
-use std::alloc::Global;
 use std::error::AnyError;
 use strip::judge::judge;
 use text::answer::answer;
-use text::hex::NoBytes;
+use text::hex::NoBytesError;
 use text::hex::decode;
-
-const USAGE: &str = "two lines are wanted, in lower-case hex: the root, and then the strip";
 
 fn main(rt: LibcRuntime) -> Result<(), AnyError> {
     rt.report(run(&rt))
@@ -20,19 +17,10 @@ fn run(rt: &LibcRuntime) -> Result<(), AnyError> {
         lines.push(line?)?;
     }
     let [root, strip] = lines.as_slice() else {
-        return Err(USAGE.into());
+        return Err("two lines are wanted: the root, and then the strip".into());
     };
-    let root = bytes(heap, root)?;
-    let strip = bytes(heap, strip)?;
+    let root = decode(heap, root.as_bytes())?;
+    let strip = decode(heap, strip.as_bytes())?;
     rt.println(answer(heap, judge(root.as_slice(), strip.as_slice()))?)?;
     Ok(())
-}
-
-// The bytes of a line of hex.
-fn bytes(heap: Global, line: &String) -> Result<Vec<u8>, AnyError> {
-    match decode(heap, line.as_bytes()) {
-        Ok(bytes) => Ok(bytes),
-        Err(NoBytes::NotHex) => Err(USAGE.into()),
-        Err(NoBytes::NoMemory) => Err("no memory".into()),
-    }
 }

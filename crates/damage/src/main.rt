@@ -5,7 +5,7 @@ use std::alloc::Global;
 use std::error::AnyError;
 use strip::judge::judge;
 use text::answer::answer;
-use text::hex::NoBytes;
+use text::hex::NoBytesError;
 use text::hex::decode;
 
 // The bits that are inverted in each byte, one at a time.
@@ -20,7 +20,7 @@ fn run(rt: &LibcRuntime) -> Result<(), AnyError> {
     let mut root = Vec::new(heap);
     let mut even = true;
     for line in rt.lines(heap) {
-        let bytes = bytes(heap, &line?)?;
+        let bytes = decode(heap, line?.as_bytes())?;
         if even {
             root = bytes;
         } else {
@@ -29,14 +29,6 @@ fn run(rt: &LibcRuntime) -> Result<(), AnyError> {
         even = !even;
     }
     Ok(())
-}
-
-fn bytes(heap: Global, line: &String) -> Result<Vec<u8>, AnyError> {
-    match decode(heap, line.as_bytes()) {
-        Ok(bytes) => Ok(bytes),
-        Err(NoBytes::NotHex) => Err("a line is no hex".into()),
-        Err(NoBytes::NoMemory) => Err("no memory".into()),
-    }
 }
 
 fn judge_all(rt: &LibcRuntime, root: &[u8], mut strip: Vec<u8>) -> Result<(), AnyError> {

@@ -26,7 +26,7 @@ pub fn judge(root: &[u8], bytes: &[u8]) -> Result<bool, Refusal>
 }
 
 // The same with a given maker.
-pub fn judge_by<M: Maker>(maker: &mut M, root: &[u8], bytes: &[u8]) -> Result<bool, Refusal>
+pub(crate) fn judge_by<M: Maker>(maker: &mut M, root: &[u8], bytes: &[u8]) -> Result<bool, Refusal>
     ensures { λ r. ⌜ Judges (meaning (now (maker .entry))) (now (root .entry)) (now (bytes .entry)) r ⌝ }
 {
     parse(maker, bytes)?;

@@ -2,6 +2,7 @@
 pub mod check;
 pub mod hex;
 pub mod judge;
+mod layout;
 pub mod parse;
 pub mod read;
 pub mod refusal;

@@ -3,24 +3,20 @@ ghost use Prim.Native.Nat.{_≤_};
 ghost use lib.ListN.{length, drop};
 ghost use Rattle.strip.specs.Format.{height-in};
 ghost use Rattle.strip.specs.Sections.{HeadRead, TokenRead, CountRead, NodesRead, Parsed};
+use crate::layout::HEAD_COUNT;
+use crate::layout::HEIGHT_PLACE;
+use crate::layout::KIND_PLACE;
+use crate::layout::NODES_PLACE;
+use crate::layout::NUMBER_PLACE;
+use crate::layout::PATH_PLACE;
+use crate::layout::TOKEN_COUNT;
+use crate::layout::TOKEN_LENGTH;
+use crate::layout::TOKEN_PLACE;
 use crate::refusal::Fault;
 use crate::refusal::Section;
 use tree::height::has_leaf;
 use tree::height::is_height;
 use tree::maker::Maker;
-
-// How many bytes the head has after its count byte, and the token after its own.
-const HEAD_COUNT: u8 = 6;
-const TOKEN_COUNT: u8 = 32;
-const TOKEN_LENGTH: usize = 32;
-
-// The places where the sections' parts begin.
-const KIND_PLACE: usize = 1;
-const HEIGHT_PLACE: usize = 2;
-const NUMBER_PLACE: usize = 3;
-const TOKEN_PLACE: usize = 7;
-const PATH_PLACE: usize = 40;
-const NODES_PLACE: usize = 41;
 
 // A strip's parts, as parts of its bytes.
 #[derive(Clone, Copy)]

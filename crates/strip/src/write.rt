@@ -4,16 +4,14 @@ ghost use Prim.Native.Nat.{_+_, _*_, _≤_};
 ghost use lib.ListN.{length, take, drop};
 ghost use Rattle.tree.specs.Path.{path-bytes};
 ghost use Rattle.strip.specs.Calls.{strip-length, write-refusal, Writes, Refuses, Appends};
+use crate::layout::HEAD_COUNT;
+use crate::layout::NODES_PLACE;
+use crate::layout::TOKEN_COUNT;
+use crate::layout::TOKEN_LENGTH;
 use crate::refusal::Refusal;
 use tree::height::has_leaf;
 use tree::height::is_height;
 use tree::maker::Maker;
-
-// The counts of the first two sections, and how many bytes there are before the nodes.
-const HEAD_COUNT: u8 = 6;
-const TOKEN_COUNT: u8 = 32;
-const TOKEN_LENGTH: usize = 32;
-const NODES_PLACE: usize = 41;
 
 // Writes the strip of a number: its token is the first 32 bytes of `token`, and its path the first
 // `height` cells of `path`. Answers its length.

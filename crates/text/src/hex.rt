@@ -3,6 +3,8 @@ ghost use Rattle.text.specs.declared.hex.NoBytes.the-variants.{NoMemory};
 ghost use Rattle.text.specs.Hex.{Decodes};
 use std::alloc::Global;
 use std::alloc::Refused;
+use std::error::Error;
+use std::fmt;
 use strip::hex::digit;
 
 // Why a text gives no bytes.
@@ -11,6 +13,17 @@ pub enum NoBytes {
     NotHex,
     NoMemory,
 }
+
+pub impl fmt::Display for NoBytes as NoBytesDisplay {
+    fn fmt<W: fmt::Write>(&self, f: &mut fmt::Formatter<W>) -> fmt::Result {
+        match self {
+            NoBytes::NotHex => f.write_str("a line is not lower-case hex, two digits a byte"),
+            NoBytes::NoMemory => f.write_str("no memory for the bytes of a line"),
+        }
+    }
+}
+
+pub impl Error for NoBytes as NoBytesError {}
 
 pub impl From<Refused<u8>> for NoBytes as NoBytesFromRefused {
     ghost converts = { λ _ r. r ≡ NoMemory };
