@@ -18,7 +18,7 @@ use Rattle.tree.proofs.Nodes.{length-path-bytes, nodes-of-path-bytes}
 use Rattle.tree.proofs.Numbering.{number-at-bytes}
 use Rattle.strip.specs.Format.{strip-bytes, height-in, number-in, token-in, path-in, first-broken, head-rules, token-rules, count-rules, node-rules, fault-in}
 use Rattle.strip.specs.Calls.{strip-length, nodes-in, Holds, write-checks, Refuses, Appends, Writes}
-use Rattle.strip.specs.Refusals.{first-refusal}
+use Rattle.tree.specs.Refusals.{first-refusal}
 use Rattle.strip.specs.declared.refusal.Refusal.{Refusal}
 use Rattle.std.specs.declared.result.Result.the-variants.{Ok, Err}
 use Rattle.strip.proofs.Appending.{appends-then, appends-all, appends-front}

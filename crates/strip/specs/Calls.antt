@@ -21,7 +21,8 @@ use Rattle.strip.specs.declared.parse.Strip.{Strip}
 use Rattle.strip.specs.declared.refusal.Refusal.{Refusal}
 use Rattle.strip.specs.declared.refusal.Refusal.the-variants.{Height, Short, Number, NoStrip}
 use Rattle.strip.specs.Format.{strip-bytes, height-in, number-in, token-in, path-in, fault-in}
-use Rattle.strip.specs.Refusals.{first-refusal, or-else}
+use Rattle.tree.specs.Refusals.{first-refusal}
+use Rattle.strip.specs.Refusals.{or-else}
 
 -- how long a strip is
 abbrev pub strip-length : {N : Type 0} → Meaning N → ℕ → ℕ

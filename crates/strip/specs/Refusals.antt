@@ -1,6 +1,5 @@
 -- What each refusal is called, and which of several comes.
 use mathlib.Core.List.{List, [], _∷_}
-use mathlib.Core.Bool.{Bool, cond}
 use Prim.Native.Nat.{ℕ}
 use Rattle.std.specs.declared.option.Option.{Option}
 use Rattle.std.specs.declared.option.Option.the-variants.{Some, None}
@@ -21,11 +20,6 @@ numbered (Height h) = (1, h ∷ [])
 numbered (Short needed) = (7, needed ∷ [])
 numbered (Number n) = (10, n ∷ [])
 numbered (NoStrip f) = (11, f .place ∷ section-number (f .section) ∷ [])
-
--- Checks in their order, each with the refusal of its failure: the first that fails.
-abbrev pub first-refusal : List (Bool × Refusal) → Option Refusal
-first-refusal [] = None
-first-refusal (check ∷ checks) = cond (check .0) (first-refusal checks) (Some (check .1))
 
 -- the refusal of a fault in a strip's bytes, or else another
 abbrev pub or-else : Option Fault → Option Refusal → Option Refusal

@@ -6,3 +6,4 @@ pub mod Aligning
 pub mod Spanning
 pub mod Numbering
 pub mod Sealing
+pub mod Rows

@@ -4,3 +4,5 @@ pub mod Path
 pub mod Numbers
 pub mod Spans
 pub mod Digests
+pub mod Refusals
+pub mod Geometry

@@ -5,8 +5,10 @@ pub mod digest;
 pub mod dummy;
 pub mod fault;
 pub mod fold;
+pub mod geometry;
 pub mod height;
 pub mod maker;
+pub mod refusal;
 pub mod sealed;
 pub mod span;
 

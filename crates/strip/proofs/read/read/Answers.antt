@@ -9,7 +9,8 @@ use Rattle.std.proofs.shelf.Lists.{take-at}
 use Rattle.std.proofs.shelf.Tests.{cond-true, le-leb}
 use Rattle.tree.specs.Path.{nodes-of}
 use Rattle.strip.specs.Format.{strip-bytes, height-in, number-in, token-in, path-in}
-use Rattle.strip.specs.Refusals.{first-refusal, or-else}
+use Rattle.tree.specs.Refusals.{first-refusal}
+use Rattle.strip.specs.Refusals.{or-else}
 use Rattle.strip.specs.Calls.{nodes-in}
 use Rattle.strip.specs.declared.refusal.Refusal.the-variants.{Short}
 use Rattle.strip.proofs.Faultless.{faultless}
