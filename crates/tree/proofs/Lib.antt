@@ -7,3 +7,4 @@ pub mod Spanning
 pub mod Numbering
 pub mod Sealing
 pub mod Rows
+pub mod Supplying

@@ -6,3 +6,6 @@ pub mod Spans
 pub mod Digests
 pub mod Refusals
 pub mod Geometry
+pub mod Supply
+pub mod Seeds
+pub mod Entries

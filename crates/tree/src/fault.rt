@@ -3,3 +3,24 @@
 pub struct TooShort {
     pub needed: usize,
 }
+
+// Why a source gives no token: it was spoiled, or the number is past the source's end.
+#[derive(Clone, Copy, Debug, PartialEq)]
+pub enum Cause {
+    Torn,
+    Beyond,
+}
+
+// Whether a source has the token of a number.
+#[derive(Clone, Copy, Debug, PartialEq)]
+pub enum Presence {
+    Present,
+    Absent(Cause),
+}
+
+// A source has no token of this number.
+#[derive(Clone, Copy, Debug, PartialEq)]
+pub struct Missing {
+    pub number: u32,
+    pub cause: Cause,
+}

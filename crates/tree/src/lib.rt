@@ -7,8 +7,12 @@ pub mod fault;
 pub mod fold;
 pub mod geometry;
 pub mod height;
+pub mod list;
 pub mod maker;
 pub mod refusal;
+mod row;
 pub mod sealed;
+pub mod seed;
+pub mod source;
 pub mod span;
 

@@ -1,13 +1,12 @@
 ghost use mathlib.Core.Path.{_≡_};
 ghost use mathlib.Core.List.{_++_};
-ghost use Prim.Native.Nat.{_+_};
-ghost use lib.ListN.{length};
 ghost use Rattle.tree.specs.Meaning.{reading, One-spelling};
 ghost use Rattle.tree.specs.Digests.{sealed-meaning};
 use crate::counter::Counter;
 use crate::digest::Digest;
 use crate::fault::TooShort;
 use crate::maker::Maker;
+use crate::row::lay;
 use hashing::digest;
 
 // A node's bytes.
@@ -87,15 +86,4 @@ fn in_row(left: &[u8; 32], right: &[u8; 32]) -> [u8; 64]
     let mut row = [0; 64];
     lay(&mut row, left, right);
     row
-}
-
-// Fills a slice with two others, one after the other.
-fn lay(row: &mut [u8], left: &[u8], right: &[u8])
-    requires { ⌜ length (now row) ≡ length (now left) + length (now right) ⌝ }
-    ensures { λ _. ⌜ now (row .exit) ≡ now (left .entry) ++ now (right .entry) ⌝ }
-{
-    let middle = left.len();
-    let end = row.len();
-    row[0..middle].copy_from_slice(left);
-    row[middle..end].copy_from_slice(right);
 }

@@ -5,7 +5,7 @@ use Prim.Native.Nat.{ℕ, _+_, _-_, _≤_}
 use lib.ListN.{length, drop, length-append, length-drop}
 use borrow.Rule.Slice.PartMut.{putMid}
 use Rattle.std.proofs.shelf.Lists.{take-at, drop-all, append-nil}
-use Rattle.tree.proofs.sealed.lay.Needs as need
+use Rattle.tree.proofs.row.lay.Needs as need
 
 -- a list overwritten from a place to its end
 laid : (left right first second post : List ℕ) (k : ℕ) → first ≡ left → second ≡ right → length post ≤ k → putMid (length left) k (first ++ post) second ≡ left ++ right
