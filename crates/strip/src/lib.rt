@@ -1,5 +1,7 @@
 // Proof strips: written, read, and checked against the root of a tree.
 pub mod check;
+pub mod figures;
+pub mod foreign;
 pub mod hex;
 pub mod judge;
 mod layout;

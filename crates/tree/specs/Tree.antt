@@ -10,6 +10,10 @@ use Rattle.tree.specs.Meaning.{Meaning}
 abbrev pub sibling : ℕ → ℕ
 sibling a = cond (eqb (a % 2) 0) (a + 1) (a - 1)
 
+-- the index of the sibling at height t on the way up from leaf n
+abbrev pub sibling-index : ℕ → ℕ → ℕ
+sibling-index n t = sibling (n / 2 ^ t)
+
 module _ {N : Type 0} (m : Meaning N) (tokens : ℕ → List ℕ) where
   -- the node of height t and index a
   abbrev pub node-at : ℕ → ℕ → N
@@ -23,7 +27,7 @@ module _ {N : Type 0} (m : Meaning N) (tokens : ℕ → List ℕ) where
   -- the siblings on the way up from leaf n: k of them, from height t on
   abbrev pub siblings : ℕ → ℕ → ℕ → List N
   siblings n t zero = []
-  siblings n t (suc k) = node-at t (sibling (n / 2 ^ t)) ∷ siblings n (suc t) k
+  siblings n t (suc k) = node-at t (sibling-index n t) ∷ siblings n (suc t) k
 
   -- the authentication path of n in the tree of height H
   abbrev pub path-of : ℕ → ℕ → List N
