@@ -1,0 +1,5 @@
+pub mod Languages
+pub mod Words
+pub mod Names
+pub mod Numerals
+pub mod Hexes

@@ -1,0 +1,3 @@
+// Job tickets: four lines of text that name a maker, two heights and a secret seed.
+pub mod job;
+mod pieces;
