@@ -61,7 +61,7 @@ each-append [] b ea eb i = eb i
 each-append (x ∷ a) b ea eb zero = ea 0
 each-append (x ∷ a) b ea eb (suc i) = each-append a b (λ j. ea (suc j)) eb i
 
-each-zero : (n i : ℕ) → getD (replicate n 0) i 0 < 256
+pub each-zero : (n i : ℕ) → getD (replicate n 0) i 0 < 256
 each-zero zero i = lit< tt
 each-zero (suc n) zero = lit< tt
 each-zero (suc n) (suc i) = each-zero n i

@@ -1,3 +1,6 @@
+ghost use mathlib.Core.Path.{_≡_};
+ghost use Rattle.ticket.specs.Reading.{numbered};
+
 // The makers that a ticket can ask for.
 #[derive(Clone, Copy, Debug, PartialEq)]
 pub enum Kind {
@@ -27,4 +30,16 @@ pub enum Refusal {
     Short(usize),
     // The text is no ticket; this byte is wrong or missing.
     NoTicket(Spot),
+}
+
+impl Refusal {
+    // The number by which a refusal is known outside.
+    pub fn number(self) -> u8
+        ensures { λ r. ⌜ r ≡ numbered self .0 ⌝ }
+    {
+        match self {
+            Refusal::Short(_) => 7,
+            Refusal::NoTicket(_) => 15,
+        }
+    }
 }

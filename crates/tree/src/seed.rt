@@ -1,13 +1,17 @@
 ghost use mathlib.Core.Path.{_≡_};
 ghost use mathlib.Core.List.{_++_};
 ghost use Rattle.tree.specs.Numbers.{number-bytes};
-ghost use Rattle.tree.specs.Seeds.{seed-supply};
+ghost use Rattle.tree.specs.Seeds.{seed-supply, Reseeds};
 use crate::fault::Cause;
 use crate::fault::Missing;
 use crate::fault::Presence;
+use crate::fault::TooShort;
 use crate::row::lay;
 use crate::source::Source;
 use hashing::digest;
+
+// How many bytes a seed has.
+const SEED: usize = 32;
 
 // How many tokens a seed yields.
 const TOKENS: u32 = 1 << 20;
@@ -23,6 +27,17 @@ impl SeedSource {
         ensures { λ r. ⌜ r .seed ≡ seed ⌝ }
     {
         SeedSource { seed }
+    }
+
+    // Takes another seed, the first 32 bytes of a slice.
+    pub fn reseed(&mut self, seed: &[u8]) -> Result<(), TooShort>
+        ensures { λ r. ⌜ Reseeds (now (self .entry) .seed) (now (seed .entry)) (now (self .exit) .seed) r ⌝ }
+    {
+        if seed.len() < SEED {
+            return Err(TooShort { needed: SEED });
+        }
+        self.seed.copy_from_slice(&seed[0..SEED]);
+        Ok(())
     }
 }
 
