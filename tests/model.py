@@ -1,11 +1,12 @@
 #!/usr/bin/env python3
-"""An independent model of trees and strips, after docs/FORMATS.md and over Python's hashlib.
+"""An independent model of trees, strips, tickets and tables, after docs/FORMATS.md and over Python's hashlib.
 
 `tests/model.py write` makes the shipped examples and the expected outputs of the programs anew, and
 `tests/model.py check` says whether the files in the repository are what it would write.
 """
 import hashlib
 import pathlib
+import re
 import sys
 
 TOP = pathlib.Path(__file__).resolve().parent.parent
@@ -162,6 +163,65 @@ def pairs():
     yield "broken sibling and root", Dummy.broken, good[:41] + Dummy.broken + good[46:]
 
 
+SEED = sha256(b"a seed that is no secret")
+TICKET = b"maker dummy\nheight 12\nsubtree 3\nseed " + SEED.hex().encode() + b"\n"
+
+
+def ticket(text):
+    """What a ticket asks for, or the line and the column of the first byte that no ticket has there."""
+    number = r"(?:[1-9][0-9]?)"
+    whole = re.fullmatch(rb"maker (dummy|sealed)\nheight (%b)\nsubtree (%b)\nseed ([0-9a-f]{64})\n" % ((number.encode(),) * 2), text)
+    if whole:
+        seed = bytes.fromhex(whole[4].decode())
+        token = sha256(seed + bytes(4))
+        return "%s %s %s %d" % (whole[1].decode(), whole[2].decode(), whole[3].decode(), int.from_bytes(token[:4], "big"))
+    place = max(agree(shape, text) for shape in shapes())
+    before = text[:place]
+    return "refused 15 %d %d" % (1 + before.count(b"\n"), place - 1 - before.rfind(b"\n"))
+
+
+def shapes():
+    """The tickets, as lists of which bytes may stand at each place: by maker and by the heights' lengths."""
+    digits, first, hexes = b"0123456789", b"123456789", b"0123456789abcdef"
+    for name in (b"dummy", b"sealed"):
+        for tall in ([first], [first, digits]):
+            for small in ([first], [first, digits]):
+                yield ([bytes([b]) for b in b"maker " + name + b"\nheight "] + tall + [bytes([b]) for b in b"\nsubtree "]
+                       + small + [bytes([b]) for b in b"\nseed "] + [hexes] * 64 + [b"\n"])
+
+
+def agree(shape, text):
+    """How many bytes of the text stand where the shape has them."""
+    count = 0
+    for allowed, byte in zip(shape, text):
+        if byte not in allowed:
+            break
+        count += 1
+    return count
+
+
+def damaged_ticket(text):
+    yield "whole", text
+    for i in range(len(text)):
+        for by in (1, 64):
+            yield "byte %d by %d" % (i, by), text[:i] + bytes([text[i] ^ by]) + text[i + 1:]
+    for size in range(len(text)):
+        yield "cut to %d" % size, text[:size]
+    yield "one more", text + b"\n"
+
+
+def table_size(height, subtree):
+    """The table's cells, section by section; or the refusal."""
+    if not 1 <= height <= 20:
+        return "refused 1 %d" % height
+    if not 1 <= subtree <= 10 or height % subtree:
+        return "refused 2 %d" % subtree
+    levels = height // subtree
+    nodes = sum(2 ** k for k in range(1, subtree + 1))
+    tails = sum((level - 1) * subtree + 1 for level in range(2, levels))
+    return str(1 + levels * nodes + (levels - 1) * nodes + tails)
+
+
 def files():
     named = list(pairs())
     out = {}
@@ -175,6 +235,11 @@ def files():
     out["crates/damage/stdin"] = "".join("%s\n%s\n" % (root.hex(), data.hex()) for _, root, data in named)
     out["crates/damage/stdout"] = "".join(
         "%s: %s\n" % (what, verdict(root, data)) for _, root, whole in named for what, data in damaged(whole))
+    out["examples/ticket.txt"] = TICKET.decode()
+    out["crates/tickets/stdin"] = TICKET.decode()
+    out["crates/tickets/stdout"] = "".join("%s: %s\n" % (what, ticket(text)) for what, text in damaged_ticket(TICKET)) + "".join(
+        "size %d %d: %s\n" % (height, subtree, table_size(height, subtree))
+        for height, subtree in ((1, 1), (4, 1), (4, 2), (20, 10), (11, 10), (21, 1), (0, 1), (4, 0)))
     return out
 
 
