@@ -54,6 +54,10 @@ module _ {N : Type 0} (m : Meaning N) (ok : Lawful m) (H n : ℕ) (secret : List
   unfolding strip-bytes
   height-at = refl
 
+  pub kind-at : getD (strip-bytes m H n secret siblings) 1 0 ≡ m .kind
+  unfolding strip-bytes
+  kind-at = refl
+
   head-kept : legal-height H ≡ true → ltb n (2 ^ H) ≡ true → n < 2 ^ 32 → first-broken (strip-bytes m H n secret siblings) (head-rules (m .kind) (strip-bytes m H n secret siblings)) ≡ None
   unfolding strip-bytes
   head-kept legal below small =

@@ -121,3 +121,9 @@ Judges m top bs (Err r) =
 -- The kind byte picks the maker. Where it names none, the sealed maker refuses the strip.
 abbrev pub Judges-by-kind : List ℕ → List ℕ → Result Bool Refusal → Type 0
 Judges-by-kind top bs r = When (eqb (getD bs 1 0) 2) (Judges dummy-meaning top bs r) (Judges sealed-meaning top bs r)
+
+-- Every strip of a full tree is accepted against the bytes of that tree's root.
+abbrev pub Accepts-root : {N : Type 0} → Meaning N → List ℕ → List ℕ → Result Bool Refusal → Type 0
+Accepts-root m top bs r =
+    (tokens : ℕ → List ℕ) (H n : ℕ) → legal-height H ≡ true → n < 2 ^ H → length (tokens n) ≡ 32 →
+    bs ≡ strip-bytes m H n (tokens n) (path-of m tokens H n) → top ≡ m .put (root-of m tokens H) → r ≡ Ok true

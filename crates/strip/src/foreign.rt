@@ -1,5 +1,5 @@
 ghost use mathlib.Core.Path.{_≡_};
-ghost use Rattle.strip.specs.Foreign.{size-or-0, length-or-0, Checks-sealed};
+ghost use Rattle.strip.specs.Foreign.{size-or-0, length-or-0, Checks-sealed, Accepts-sealed};
 use crate::judge::judge_by;
 use crate::layout::NODES_PLACE;
 use tree::geometry::size;
@@ -18,7 +18,7 @@ const YES: u32 = 0;
 const NO: u32 = 100;
 const ROOT_LENGTH: u32 = 7;
 
-// How many cells the table of a traversal has; 0 for heights that no tree has.
+// How many cells the table of a traversal has; 0 for heights that no tree or no subtree has.
 #[unsafe(no_mangle)]
 pub extern "C" fn strips_table_size(height: u32, subtree: u32) -> u64
     ensures { λ r. ⌜ r ≡ size-or-0 height subtree ⌝ }
@@ -49,7 +49,8 @@ pub extern "C" fn strips_strip_length(kind: u32, height: u32) -> u64
 // refusal.
 #[unsafe(no_mangle)]
 pub extern "C" fn strips_check(strip: &[u8], root: &[u8]) -> u32
-    ensures { λ r. ⌜ Checks-sealed (now (strip .entry)) (now (root .entry)) r ⌝ }
+    ensures answer { λ r. ⌜ Checks-sealed (now (strip .entry)) (now (root .entry)) r ⌝ }
+    ensures full_tree { λ r. ⌜ Accepts-sealed (now (strip .entry)) (now (root .entry)) r ⌝ }
 {
     if root.len() as u64 != SEALED_WIDTH {
         return ROOT_LENGTH;

@@ -1,5 +1,7 @@
 ghost use mathlib.Core.Path.{_≡_};
-ghost use Rattle.strip.specs.Calls.{Judges, Judges-by-kind};
+ghost use Rattle.tree.specs.Digests.{sealed-meaning};
+ghost use Rattle.tree.specs.Spans.{dummy-meaning};
+ghost use Rattle.strip.specs.Calls.{Judges, Judges-by-kind, Accepts-root};
 use crate::check::check;
 use crate::parse::parse;
 use crate::refusal::Refusal;
@@ -17,7 +19,9 @@ const DUMMY_KIND: u8 = 2;
 // Whether a strip leads to a root, both given as bytes. The strip's kind byte picks the maker; a kind
 // that no maker has is refused as any wrong byte is.
 pub fn judge(root: &[u8], bytes: &[u8]) -> Result<bool, Refusal>
-    ensures { λ r. ⌜ Judges-by-kind (now (root .entry)) (now (bytes .entry)) r ⌝ }
+    ensures answer { λ r. ⌜ Judges-by-kind (now (root .entry)) (now (bytes .entry)) r ⌝ }
+    ensures sealed_trees { λ r. ⌜ Accepts-root sealed-meaning (now (root .entry)) (now (bytes .entry)) r ⌝ }
+    ensures dummy_trees { λ r. ⌜ Accepts-root dummy-meaning (now (root .entry)) (now (bytes .entry)) r ⌝ }
 {
     match bytes {
         [_, DUMMY_KIND, ..] => judge_by(&mut Dummy::new(), root, bytes),
