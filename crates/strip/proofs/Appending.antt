@@ -1,9 +1,9 @@
 -- Bytes put one after another.
 use mathlib.Core.Path.{_≡_, refl, sym, ap, ap₂, _∙_}
 use mathlib.Core.List.{List, [], _∷_, _++_}
-use Prim.Native.Nat.{ℕ, _+_, _-_, _*_, _<_, _≤_}
+use Prim.Native.Nat.{ℕ, _+_, _-_, _<_, _≤_}
 use native.Mathlib.Omega.{arith}
-use native.Mathlib.Nat.{add-zero, add-mul, one-mul}
+use native.Mathlib.Nat.{add-zero}
 use lib.ListN.{length, getD, take, drop, length-append}
 use borrow.Rule.Slice.PartMut.{putMid}
 use Rattle.std.proofs.shelf.Lists.{append-nil, append-assoc, drop-drop, drop-all, take-append-drop, take-more, joined-more}

@@ -1,27 +1,25 @@
 -- What is known of bytes with no fault, and which bytes have none.
-use mathlib.Core.Path.{_≡_, refl, sym, ap, ap₂, subst, _∙_}
+use mathlib.Core.Path.{_≡_, refl, sym, ap, _∙_}
 use mathlib.Core.List.{List, [], _∷_, _++_}
-use mathlib.Core.Bool.{Bool, true, false, cond}
+use mathlib.Core.Bool.{true, false}
 use mathlib.Core.Logic.{⊎-elim}
-use Prim.Native.Nat.{ℕ, zero, suc, _+_, _-_, _*_, _^_, _<_, _≤_}
+use Prim.Native.Nat.{ℕ, zero, suc, _+_, _*_, _^_, _<_, _≤_}
 use native.Mathlib.Omega.{arith}
-use native.Mathlib.Nat.{zero-mul, add-mul, one-mul, add-zero, add-assoc, add-comm}
+use native.Mathlib.Nat.{zero-mul, add-mul, one-mul}
 use native.Mathlib.Numerals.{add-one}
-use lib.Dec.{leb, ltb, eqb}
+use lib.Dec.{ltb}
 use lib.ListN.{length, getD, take, drop, length-drop, length-append}
 use Rattle.std.proofs.shelf.Lists.{drop-drop, drop-at, take-at}
-use Rattle.std.proofs.shelf.Tests.{cases-bool, and-parts, ltb-true, ltb-false, leb-true, eqb-true, le-leb, le-ltb, cond-true, cond-false, both-ways}
+use Rattle.std.proofs.shelf.Tests.{cases-bool, and-parts, ltb-true, ltb-false, leb-true, eqb-true, le-leb, le-ltb, cond-false, both-ways}
 use Rattle.std.specs.Options.{isSome}
 use Rattle.std.specs.declared.option.Option.{Option}
 use Rattle.std.specs.declared.option.Option.the-variants.{Some, None}
 use Rattle.tree.specs.Meaning.{Meaning, Lawful}
-use Rattle.tree.specs.Numbers.{legal-height}
 use Rattle.tree.specs.Path.{path-bytes, and-then, front-node, nodes-of}
-use Rattle.tree.proofs.Nodes.{length-path-bytes}
 use Rattle.strip.specs.declared.refusal.Fault.{Fault}
-use Rattle.strip.specs.Format.{Rule, fault, first-broken, height-in, number-in, path-in, head-rules, token-rules, count-rules, node-rules, fault-in}
+use Rattle.strip.specs.Format.{Rule, fault, first-broken, height-in, number-in, head-rules, token-rules, count-rules, node-rules, fault-in}
 use Rattle.strip.specs.Calls.{nodes-in}
-use Rattle.strip.proofs.Rules.{first, rules-then, rule-kept, rule-reached, rule-ends, rule-broken}
+use Rattle.strip.proofs.Rules.{first, rules-then, rule-kept, rule-ends, rule-broken}
 
 some-is-not-none : {A : Type 0} (x : A) → Some x ≡ None → ⊥
 some-is-not-none x e = let z : _≡_ {A = ℕ} 0 1 = cc in omega arith

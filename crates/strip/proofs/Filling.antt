@@ -1,13 +1,11 @@
 -- Cells filled with the nodes of a path, one after another.
 use mathlib.Core.Path.{_≡_, refl, sym, ap, _∙_}
 use mathlib.Core.List.{List, [], _∷_, _++_}
-use Prim.Native.Nat.{ℕ, zero, suc, _+_, _-_, _*_, _<_, _≤_}
+use Prim.Native.Nat.{ℕ, _+_, _-_, _<_}
 use native.Mathlib.Omega.{arith}
 use native.Mathlib.Nat.{sub-zero}
-use native.Mathlib.Numerals.{add-one}
 use lib.ListN.{length, take, drop, set}
 use Rattle.std.proofs.shelf.Lists.{append-assoc, append-nil, drop-drop, drop-set-lt, take-append-drop, take-more-set}
-use Rattle.std.specs.declared.option.Option.{Option}
 use Rattle.std.specs.declared.option.Option.the-variants.{Some, None}
 use Rattle.tree.specs.Meaning.{Meaning}
 use Rattle.tree.specs.Path.{front-node, nodes-of}

@@ -2,19 +2,17 @@
 use mathlib.Core.Path.{_≡_, refl, sym, ap, ap₂, _∙_}
 use mathlib.Core.List.{List, [], _∷_, _++_}
 use mathlib.Core.Bool.{Bool, true, false, cond}
-use mathlib.Core.Logic.{⊎-elim}
-use Prim.Native.Nat.{ℕ, zero, suc, _+_, _-_, _*_, _<_, _≤_}
+use Prim.Native.Nat.{ℕ, suc, _+_, _-_, _<_, _≤_}
 use native.Mathlib.Omega.{arith}
-use lib.Dec.{leb, ltb}
+use lib.Dec.{ltb}
 use lib.ListN.{length, take, drop, length-drop}
 use native.Mathlib.Nat.{sub-zero}
-use Rattle.std.proofs.shelf.Tests.{cond-true, cond-false, lt-ltb, le-ltb, le-leb, lt-leb, cases-bool, ltb-false}
+use Rattle.std.proofs.shelf.Tests.{cond-true, cond-false, lt-ltb, le-ltb, le-leb, lt-leb}
 use Rattle.std.proofs.shelf.Lists.{drop-drop}
 use Rattle.std.specs.Options.{isSome}
 use Rattle.std.specs.declared.option.Option.{Option}
 use Rattle.std.specs.declared.option.Option.the-variants.{Some, None}
 use Rattle.tree.specs.Meaning.{Meaning}
-use Rattle.strip.specs.declared.refusal.Section.{Section}
 use Rattle.strip.specs.declared.refusal.Section.the-variants.{Path}
 use Rattle.strip.specs.declared.refusal.Fault.{Fault}
 use Rattle.strip.specs.Format.{Rule, fault, first-broken, height-in, head-rules, token-rules, count-rules, node-rules, fault-in}

@@ -1,7 +1,7 @@
 -- Over a maker of one spelling, the parts of a faultless strip give its bytes again.
 use mathlib.Core.Path.{_≡_, refl, sym, ap, ap₂, _∙_}
 use mathlib.Core.List.{List, [], _∷_, _++_}
-use Prim.Native.Nat.{ℕ, zero, suc, _+_, _-_, _*_, _^_, _<_, _≤_}
+use Prim.Native.Nat.{ℕ, zero, suc, _+_, _*_, _<_, _≤_}
 use native.Mathlib.Omega.{arith}
 use native.Mathlib.Nat.{zero-mul, add-mul, one-mul}
 use native.Mathlib.Numerals.{add-one}
@@ -13,10 +13,9 @@ use mathlib.Core.Logic.{⊎-elim}
 use Rattle.std.specs.declared.option.Option.{Option}
 use Rattle.std.specs.declared.option.Option.the-variants.{Some, None}
 use Rattle.tree.specs.Meaning.{Meaning, One-spelling}
-use Rattle.tree.specs.Numbers.{number-bytes, number-at}
 use Rattle.tree.specs.Path.{path-bytes, and-then, front-node, nodes-of}
 use Rattle.tree.proofs.Numbering.{bytes-of-number}
-use Rattle.strip.specs.Format.{strip-bytes, height-in, number-in, token-in, path-in}
+use Rattle.strip.specs.Format.{strip-bytes, height-in, number-in, token-in}
 use Rattle.strip.specs.Calls.{nodes-in}
 use Rattle.strip.proofs.Faultless.{Faultless}
 

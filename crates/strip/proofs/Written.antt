@@ -1,26 +1,26 @@
 -- The bytes of a strip have no fault and hold what was written.
 use mathlib.Core.Path.{_≡_, refl, sym, ap, ap₂, subst, _∙_}
 use mathlib.Core.List.{List, [], _∷_, _++_}
-use mathlib.Core.Bool.{Bool, true, cond}
+use mathlib.Core.Bool.{Bool, true}
 use mathlib.Core.Logic.{⊎-elim}
-use Prim.Native.Nat.{ℕ, zero, suc, _+_, _-_, _*_, _^_, _<_, _≤_}
+use Prim.Native.Nat.{ℕ, _*_, _^_, _<_}
 use native.Mathlib.Omega.{arith}
-use lib.Dec.{leb, ltb, eqb}
+use lib.Dec.{ltb}
 use lib.ListN.{length, getD, take, drop, length-append}
 use lib.Pow.{pow-mono}
 use Rattle.std.proofs.shelf.Lists.{take-at, drop-at, getD-at, append-nil, append-assoc, drop-drop, length-take-le}
 use Rattle.std.proofs.shelf.Tests.{and-parts, leb-true, ltb-true, eq-eqb, cases-bool, cond-true, cond-false}
 use Rattle.std.specs.declared.option.Option.the-variants.{Some, None}
 use Rattle.tree.specs.Meaning.{Meaning, Lawful}
-use Rattle.tree.specs.Numbers.{number-bytes, number-at, legal-height}
+use Rattle.tree.specs.Numbers.{number-bytes, legal-height}
 use Rattle.tree.specs.Path.{path-bytes, nodes-of}
 use Rattle.tree.proofs.Nodes.{length-path-bytes, nodes-of-path-bytes}
 use Rattle.tree.proofs.Numbering.{number-at-bytes}
-use Rattle.strip.specs.Format.{strip-bytes, height-in, number-in, token-in, path-in, first-broken, head-rules, token-rules, count-rules, node-rules, fault-in}
-use Rattle.strip.specs.Calls.{strip-length, nodes-in, Holds, write-checks, Refuses, Appends, Writes}
+use Rattle.strip.specs.Format.{strip-bytes, height-in, number-in, token-in, first-broken, head-rules, token-rules, count-rules, node-rules}
+use Rattle.strip.specs.Calls.{strip-length, Holds, write-checks, Refuses, Appends, Writes}
 use Rattle.tree.specs.Refusals.{first-refusal}
 use Rattle.strip.specs.declared.refusal.Refusal.{Refusal}
-use Rattle.std.specs.declared.result.Result.the-variants.{Ok, Err}
+use Rattle.std.specs.declared.result.Result.the-variants.{Ok}
 use Rattle.strip.proofs.Appending.{appends-then, appends-all, appends-front}
 use Rattle.strip.proofs.Rules.{fault-is}
 use Rattle.strip.proofs.Faultless.{no-fault, nodes-faultless}

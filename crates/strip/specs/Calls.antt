@@ -1,8 +1,8 @@
 -- What writing, reading and checking a strip answer, and what they leave.
 use mathlib.Core.Path.{_≡_}
 use mathlib.Core.List.{List, [], _∷_, _++_}
-use mathlib.Core.Bool.{Bool, true, false}
-use Prim.Native.Nat.{ℕ, _+_, _*_, _^_, _≤_, _<_}
+use mathlib.Core.Bool.{Bool, true}
+use Prim.Native.Nat.{ℕ, _+_, _*_, _^_, _<_}
 use lib.Dec.{eqb, leb, ltb}
 use lib.ListN.{length, getD, take, drop}
 use denote.Ref.{now}
@@ -19,7 +19,7 @@ use Rattle.tree.specs.Spans.{dummy-meaning}
 use Rattle.tree.specs.Digests.{sealed-meaning}
 use Rattle.strip.specs.declared.parse.Strip.{Strip}
 use Rattle.strip.specs.declared.refusal.Refusal.{Refusal}
-use Rattle.strip.specs.declared.refusal.Refusal.the-variants.{Height, Short, Number, NoStrip}
+use Rattle.strip.specs.declared.refusal.Refusal.the-variants.{Height, Short, Number}
 use Rattle.strip.specs.Format.{strip-bytes, height-in, number-in, token-in, path-in, fault-in}
 use Rattle.tree.specs.Refusals.{first-refusal}
 use Rattle.strip.specs.Refusals.{or-else}

@@ -1,6 +1,6 @@
 -- A refusal's line from its pieces.
 use mathlib.Core.Path.{_≡_, sym, ap, ap₂, _∙_}
-use mathlib.Core.List.{List, [], _∷_, _++_}
+use mathlib.Core.List.{[], _∷_, _++_}
 use Prim.Native.Nat.{ℕ}
 use lib.Chars.{codes}
 use Rattle.std.specs.Written.{decimal}

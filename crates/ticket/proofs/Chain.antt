@@ -1,18 +1,18 @@
 -- The set of all tickets, piece by piece.
 use mathlib.Core.Path.{_≡_, refl, sym, ap, subst, _∙_}
-use mathlib.Core.List.{List, [], _∷_, _++_}
+use mathlib.Core.List.{List, [], _++_}
 use Prim.Native.Nat.{ℕ, _+_, _<_, _≤_}
 use native.Mathlib.Omega.{arith}
 use native.Mathlib.Nat.{add-zero}
 use lib.Chars.{codes}
-use lib.Dec.{lit<, lit≤}
-use lib.ListN.{length, getD, take, drop, replicate, length-append, length-drop}
+use lib.Dec.{lit≤}
+use lib.ListN.{length, take, drop, replicate, length-append, length-drop}
 use Rattle.std.proofs.shelf.Lists.{length-replicate, length-take-le}
 use Rattle.ticket.specs.declared.job.Kind.{Kind}
-use Rattle.ticket.specs.declared.job.Kind.the-variants.{Sealed, Dummy}
-use Rattle.ticket.specs.Texts.{Ticket, Sayable, kind-line, number-line, hex-text, ticket-text}
+use Rattle.ticket.specs.declared.job.Kind.the-variants.{Sealed}
+use Rattle.ticket.specs.Texts.{kind-line, number-line, hex-text}
 use Rattle.ticket.specs.Reading.{Is-ticket, Wrong-at}
-use Rattle.ticket.specs.Pieces.{Wrong-word, Good-number, Good-seed, Stands, Fails}
+use Rattle.ticket.specs.Pieces.{Good-number, Good-seed, Stands, Fails}
 use Rattle.ticket.proofs.Languages.{begun, wrong-word, wrong-after}
 use Rattle.ticket.proofs.Names.{kinds-apart}
 use Rattle.ticket.proofs.Numerals.{numbers-apart}

@@ -1,14 +1,12 @@
 -- Bytes in hex.
 use mathlib.Core.Path.{_≡_, refl, sym, ap, ap₂, _∙_}
 use mathlib.Core.List.{List, [], _∷_, _++_}
-use mathlib.Core.Logic.{⊎-elim}
 use Prim.Native.Nat.{ℕ, zero, suc, _+_, _-_, _*_, _/_, _%_, _<_, _≤_}
 use native.Mathlib.Omega.{arith}
-use lib.Dec.{ltb, lit<}
+use lib.Dec.{lit<}
 use lib.Seq.{take-append-add}
-use lib.ListN.{length, getD, take, drop, replicate, length-append, length-take}
-use Rattle.std.proofs.shelf.Lists.{append-assoc, append-nil, nil-from-length, take-at, take-more, getD-append-left, getD-append-right, length-replicate, getD-replicate, getD-past}
-use Rattle.std.proofs.shelf.Tests.{cases-lt, cond-true, cond-false, lt-ltb, le-ltb}
+use lib.ListN.{length, getD, take, drop, replicate, length-append}
+use Rattle.std.proofs.shelf.Lists.{append-assoc, append-nil, nil-from-length, take-at, take-more, length-replicate}
 use Rattle.std.proofs.shelf.Ways.{tells}
 use Rattle.ticket.specs.Texts.{hex-digit, hex-text}
 use Rattle.ticket.specs.Pieces.{Wrong-word, Good-seed}

@@ -1,12 +1,12 @@
 -- Sets of byte lists that begin with one of some words: where bytes go wrong in them.
-use mathlib.Core.Path.{_≡_, refl, sym, ap, ap₂, subst, _∙_}
-use mathlib.Core.List.{List, [], _∷_, _++_}
-use mathlib.Core.Logic.{⊎-elim, _⊎_, inl, inr}
-use Prim.Native.Nat.{ℕ, suc, _+_, _-_, _<_, _≤_}
+use mathlib.Core.Path.{_≡_, refl, sym, ap, subst, _∙_}
+use mathlib.Core.List.{List, _++_}
+use mathlib.Core.Logic.{⊎-elim}
+use Prim.Native.Nat.{ℕ, _+_, _≤_}
 use native.Mathlib.Omega.{arith}
 use lib.Seq.{take-append-add}
-use lib.ListN.{length, getD, take, drop, length-append, length-take}
-use Rattle.std.proofs.shelf.Lists.{append-assoc, append-cancel-left, take-append-drop, take-append-le, drop-append-le, take-at, drop-at, take-take, length-take-le, take-all}
+use lib.ListN.{length, take, drop, length-append}
+use Rattle.std.proofs.shelf.Lists.{append-assoc, append-cancel-left, take-append-drop, take-append-le, drop-append-le, take-at, drop-at, length-take-le}
 use Rattle.std.proofs.shelf.Tests.{cases-lt}
 use Rattle.ticket.specs.Reading.{Wrong-at}
 use Rattle.ticket.specs.Pieces.{Wrong-word}

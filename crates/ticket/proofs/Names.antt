@@ -1,9 +1,9 @@
 -- The names of the makers.
 use mathlib.Core.Path.{_≡_, refl, sym, ap, subst, _∙_}
-use mathlib.Core.List.{List, [], _∷_, _++_}
-use Prim.Native.Nat.{ℕ, _+_, _<_, _≤_}
+use mathlib.Core.List.{List, _++_}
+use Prim.Native.Nat.{ℕ, _+_, _<_}
 use native.Mathlib.Omega.{arith}
-use lib.ListN.{length, getD, take, length-append}
+use lib.ListN.{length, getD, take}
 use Rattle.std.proofs.shelf.Lists.{getD-take, getD-append-left, length-take-le}
 use Rattle.ticket.specs.declared.job.Kind.{Kind}
 use Rattle.ticket.specs.declared.job.Kind.the-variants.{Sealed, Dummy}

@@ -1,11 +1,11 @@
 -- Words that stand in a text, and where they fail.
-use mathlib.Core.Path.{_≡_, refl, sym, ap, ap₂, subst, _∙_}
-use mathlib.Core.List.{List, [], _∷_, _++_}
-use Prim.Native.Nat.{ℕ, suc, _+_, _-_, _<_, _≤_}
+use mathlib.Core.Path.{_≡_, sym, ap, ap₂, _∙_}
+use mathlib.Core.List.{List, _++_}
+use Prim.Native.Nat.{ℕ, _+_, _<_, _≤_}
 use native.Mathlib.Omega.{arith}
-use lib.ListN.{length, getD, take, drop, length-append, length-drop, length-take}
-use Rattle.std.proofs.shelf.Lists.{take-append-drop, take-all, drop-drop, take-take, take-append-le, length-take-le, getD-take, getD-drop, getD-append-left}
-use Rattle.ticket.specs.Pieces.{Wrong-word, Stands, Fails}
+use lib.ListN.{length, getD, take, drop, length-append}
+use Rattle.std.proofs.shelf.Lists.{take-append-drop, take-all, drop-drop, take-take, take-append-le, length-take-le, getD-take, getD-append-left}
+use Rattle.ticket.specs.Pieces.{Wrong-word, Stands}
 
 -- the byte at k of a list that goes on after k
 front-byte : (xs rest : List ℕ) (k : ℕ) → k < length xs → getD (take (k + 1) xs ++ rest) k 0 ≡ getD xs k 0

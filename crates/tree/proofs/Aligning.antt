@@ -1,10 +1,10 @@
 -- Spans of leaves: how high one can be, and what its test says.
-use mathlib.Core.Path.{_≡_, refl, sym, ap, _∙_}
-use mathlib.Core.Bool.{Bool, true, false, _&&_}
-use Prim.Native.Nat.{ℕ, suc, _+_, _-_, _*_, _/_, _%_, _^_, _<_, _≤_}
+use mathlib.Core.Path.{_≡_}
+use mathlib.Core.Bool.{true, false}
+use Prim.Native.Nat.{ℕ, _+_, _-_, _%_, _^_, _<_, _≤_}
 use native.Mathlib.Omega.{arith}
 use lib.Dec.{eqb, leb}
-use lib.Pow.{pow-mono, pow-pos}
+use lib.Pow.{pow-mono}
 use Rattle.std.proofs.shelf.Tests.{and-parts, and-right, leb-true, lt-leb, eqb-true, cases-lt}
 use Rattle.std.proofs.shelf.Ways.{tells}
 use Rattle.tree.specs.Numbers.{aligned}

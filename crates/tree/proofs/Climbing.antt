@@ -1,8 +1,8 @@
 -- Folding the path of a number of the full tree gives the root.
 use mathlib.Core.Path.{_≡_, refl, sym, ap, ap₂, _∙_}
 use mathlib.Core.Bool.{Bool, true, false, cond}
-use mathlib.Core.List.{List, [], _∷_}
-use Prim.Native.Nat.{ℕ, zero, suc, _+_, _-_, _*_, _/_, _%_, _^_, _<_}
+use mathlib.Core.List.{List}
+use Prim.Native.Nat.{ℕ, zero, suc, _+_, _-_, _*_, _/_, _%_, _^_}
 use native.Mathlib.Omega.{arith}
 use native.Mathlib.Nat.{add-zero, zero-add, div-one, div-eq-of-lt}
 use native.Mathlib.Numerals.{add-one}
@@ -11,8 +11,8 @@ use lib.ListN.{length}
 use lib.Pow.{shr-shr}
 use Rattle.std.proofs.shelf.Tests.{eqb-true, eqb-false}
 use Rattle.tree.specs.Meaning.{Meaning}
-use Rattle.tree.specs.Tree.{sibling, node-at, root-of, siblings, path-of}
-use Rattle.tree.specs.Path.{parent, leads-to, Path-leads-to-root}
+use Rattle.tree.specs.Tree.{node-at, siblings}
+use Rattle.tree.specs.Path.{leads-to, Path-leads-to-root}
 
 -- half of a shift is the next shift
 pub shift-half : (n h : ℕ) → n / 2 ^ h / 2 ≡ n / 2 ^ suc h

@@ -1,5 +1,5 @@
 -- Laws of a meter that goes on.
-use mathlib.Core.Path.{_≡_, refl, sym, ap, ap₂, _∙_}
+use mathlib.Core.Path.{_≡_, ap, ap₂, _∙_}
 use Prim.Native.Nat.{ℕ, _+_, _%_, _^_, _<_}
 use native.Mathlib.Nat.{mod-add-mod, mod-eq-of-lt, add-assoc, add-zero}
 use Rattle.tree.specs.Meaning.{Meter, Wraps, reading, after}

@@ -1,19 +1,18 @@
 -- Nodes as bytes and back.
 use mathlib.Core.Path.{_≡_, refl, sym, ap, ap₂, _∙_}
 use mathlib.Core.List.{List, [], _∷_, _++_}
-use Prim.Native.Nat.{ℕ, zero, suc, _+_, _-_, _*_, _/_, _%_, _^_, _<_, _≤_}
+use Prim.Native.Nat.{ℕ, suc, _+_, _*_, _/_}
 use native.Mathlib.Omega.{arith}
-use native.Mathlib.Nat.{zero-mul, add-mul, one-mul, add-comm, mul-comm}
-use native.Mathlib.Numerals.{add-one, one-add}
+use native.Mathlib.Nat.{zero-mul, add-mul, one-mul, mul-comm}
+use native.Mathlib.Numerals.{add-one}
 use lib.Dec.{eqb, ltb}
-use lib.ListN.{length, take, drop, length-append}
+use lib.ListN.{length, drop, length-append}
 use Rattle.std.proofs.shelf.Lists.{append-assoc, append-nil, take-at, drop-at}
 use Rattle.std.proofs.shelf.Tests.{cond-true, cond-false, eq-eqb, le-ltb}
 use Rattle.std.proofs.shelf.Bits.{div-mul-add}
-use Rattle.std.specs.declared.option.Option.{Option}
 use Rattle.std.specs.declared.option.Option.the-variants.{Some, None}
 use Rattle.tree.specs.Meaning.{Meaning, Lawful}
-use Rattle.tree.specs.Tree.{root-of, siblings, path-of}
+use Rattle.tree.specs.Tree.{path-of}
 use Rattle.tree.specs.Path.{leads-to, path-bytes, and-then, front-node, nodes-of, path-nodes, folded, Folds-to-root}
 use Rattle.tree.proofs.Climbing.{path-leads-to-root}
 

@@ -1,15 +1,14 @@
 -- The sections of the table lie in a row.
-use mathlib.Core.Path.{_≡_, refl, sym, ap, ap₂, _∙_}
+use mathlib.Core.Path.{_≡_, ap, ap₂, _∙_}
 use mathlib.Core.Bool.{true, cond, _&&_}
-use Prim.Native.Nat.{ℕ, suc, _+_, _-_, _*_, _/_, _%_, _^_, _<_, _≤_}
+use Prim.Native.Nat.{ℕ, _+_, _-_, _*_, _/_, _%_, _^_, _<_, _≤_}
 use native.Mathlib.Omega.{arith}
-use native.Mathlib.Nat.{zero-mul, one-mul, mul-zero, add-mul, mul-add, mul-comm, add-assoc, add-zero}
+use native.Mathlib.Nat.{zero-mul, one-mul, mul-zero, add-mul, mul-add, mul-comm}
 use mathlib.Core.Logic.{⊎-elim}
 use lib.Dec.{eqb, leb, lit<}
 use Rattle.std.proofs.shelf.Bits.{div-add-mod', shl-whole, pow-add}
 use Rattle.std.proofs.shelf.Tests.{and-parts, leb-true, le-leb, lt-leb, eqb-true, cond-true, cond-false, cases-lt}
-use Rattle.tree.specs.Numbers.{legal-height}
-use Rattle.tree.specs.Geometry.{legal-subtree, levels, subtree-cells, tail-cells, existing-start, following-start, tail-start, table-size, In-a-row}
+use Rattle.tree.specs.Geometry.{legal-subtree, levels, subtree-cells, table-size, In-a-row}
 
 -- one section of s cells more
 one-more : (a s : ℕ) → (a + 1) * s ≡ a * s + s

@@ -1,5 +1,5 @@
 -- Spans as the dummy maker's nodes.
-use mathlib.Core.Path.{_≡_, refl, sym, ap, ap₂, subst, _∙_}
+use mathlib.Core.Path.{_≡_, refl, sym, ap, ap₂, _∙_}
 use mathlib.Core.Logic.{⊎-elim}
 use mathlib.Core.HLevel.{isProp→PathP}
 use mathlib.Core.Bool.{Bool, true, false, cond, Bool-set}
@@ -9,10 +9,9 @@ use native.Mathlib.Omega.{arith}
 use lib.Dec.{eqb, lit<, lit≤}
 use lib.ListN.{length, getD, take}
 use Rattle.std.proofs.shelf.Tests.{both-ways, cases-bool, cond-true, cond-false, and-parts, and-right, eqb-true, ne-eqb}
-use Rattle.std.specs.declared.option.Option.{Option}
 use Rattle.std.specs.declared.option.Option.the-variants.{Some, None}
 use Rattle.tree.specs.Meaning.{Lawful, One-spelling}
-use Rattle.tree.specs.Numbers.{number-bytes, number-at, aligned}
+use Rattle.tree.specs.Numbers.{number-at, aligned}
 use Rattle.tree.specs.Spans.{span-if, span, put-span, is-broken, read-span, dummy-meaning}
 use Rattle.tree.proofs.Aligning.{fits}
 use Rattle.tree.proofs.Numbering.{number-at-bytes, bytes-of-number}

@@ -11,7 +11,6 @@ use Rattle.std.specs.declared.result.Result.{Result}
 use Rattle.std.specs.declared.result.Result.the-variants.{Ok, Err}
 use Rattle.tree.specs.declared.fault.Presence.{Presence}
 use Rattle.tree.specs.declared.fault.Presence.the-variants.{Present, Absent}
-use Rattle.tree.specs.declared.fault.Cause.{Cause}
 use Rattle.tree.specs.declared.fault.Cause.the-variants.{Torn, Beyond}
 use Rattle.tree.specs.declared.fault.Missing.{Missing}
 

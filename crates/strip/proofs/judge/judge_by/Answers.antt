@@ -1,4 +1,4 @@
-use mathlib.Core.Path.{sym, _∙_}
+use mathlib.Core.Path.{_∙_}
 use Rattle.strip.proofs.Leading.{judges-none, judges}
 use Rattle.strip.proofs.judge.judge_by.Needs as need
 

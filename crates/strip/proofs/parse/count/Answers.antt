@@ -1,13 +1,9 @@
 use borrow.Author.Needs.{needs}
-use native.Mathlib.Omega.{arith}
-use mathlib.Core.Path.{_≡_, refl, sym, ap, _∙_}
+use mathlib.Core.Path.{_≡_, ap, _∙_}
 use mathlib.Core.List.{List}
-use Prim.Native.Nat.{ℕ, _-_, _≤_, _<_}
+use Prim.Native.Nat.{ℕ, _-_}
 use lib.ListN.{length, getD, take, drop, length-drop}
 use Rattle.std.proofs.shelf.Lists.{take-rest, drop-drop, getD-drop}
-use Rattle.std.proofs.shelf.Tests.{eq-eqb, ne-eqb}
-use Rattle.std.proofs.shelf.Ways.{tells}
-use Rattle.strip.proofs.Rules.{rule-ends, rule-broken, rule-kept}
 use Rattle.strip.proofs.parse.count.Needs as need
 
 -- what follows the token, by the whole

@@ -1,8 +1,6 @@
 use borrow.Author.Needs.{needs}
 use native.Mathlib.Omega.{arith}
-use mathlib.Core.Path.{refl}
 use Rattle.std.proofs.shelf.Lists.{take-rest}
-use Rattle.std.proofs.shelf.Ways.{tells}
 use Rattle.strip.proofs.parse.head.Needs as need
 
 pub returns-then-has-leaf : need.returns-then-has-leaf

@@ -1,4 +1,3 @@
-use mathlib.Core.Path.{_≡_}
 use Rattle.strip.proofs.Rules.{Passed}
 use Rattle.strip.proofs.parse.only_nodes.Given as given
 

@@ -1,8 +1,7 @@
-use mathlib.Core.Path.{_≡_, refl, sym, ap, _∙_}
+use mathlib.Core.Path.{refl}
 use mathlib.Core.List.{List}
 use Prim.Native.Nat.{ℕ}
 use Rattle.std.proofs.shelf.Results.{err-from-errBy}
-use Rattle.std.specs.declared.option.Option.the-variants.{Some, None}
 use Rattle.strip.specs.Format.{height-in}
 use Rattle.strip.proofs.Rules.{fault-is}
 use Rattle.strip.proofs.parse.parse.Needs as need

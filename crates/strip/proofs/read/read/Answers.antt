@@ -1,5 +1,5 @@
 use native.Mathlib.Omega.{arith}
-use mathlib.Core.Path.{_≡_, refl, sym, ap, ap₂, _∙_}
+use mathlib.Core.Path.{sym, ap, ap₂, _∙_}
 use mathlib.Core.List.{List, [], _∷_, _++_}
 use Prim.Native.Nat.{ℕ, _≤_}
 use lib.Dec.{leb}
@@ -8,7 +8,7 @@ use Rattle.std.specs.declared.option.Option.the-variants.{Some, None}
 use Rattle.std.proofs.shelf.Lists.{take-at}
 use Rattle.std.proofs.shelf.Tests.{cond-true, le-leb}
 use Rattle.tree.specs.Path.{nodes-of}
-use Rattle.strip.specs.Format.{strip-bytes, height-in, number-in, token-in, path-in}
+use Rattle.strip.specs.Format.{strip-bytes, height-in}
 use Rattle.tree.specs.Refusals.{first-refusal}
 use Rattle.strip.specs.Refusals.{or-else}
 use Rattle.strip.specs.Calls.{nodes-in}

@@ -1,13 +1,10 @@
 use native.Mathlib.Omega.{arith}
 use native.Mathlib.Nat.{add-mul, one-mul, zero-mul, le-refl}
-use mathlib.Core.Path.{_≡_, refl, sym, ap, subst, _∙_}
-use mathlib.Core.List.{List}
-use Prim.Native.Nat.{ℕ, _+_, _*_, _<_, _≤_}
-use lib.ListN.{length, take}
+use mathlib.Core.Path.{_≡_}
+use Prim.Native.Nat.{ℕ, _+_, _*_, _≤_}
+use lib.ListN.{length}
 use Rattle.std.proofs.shelf.Bits.{mul-le}
 use Rattle.std.proofs.shelf.Lists.{take-all}
-use Rattle.tree.specs.Path.{path-bytes}
-use Rattle.strip.specs.Calls.{Appends}
 use Rattle.strip.proofs.Appending.{appends-none, appends-then, path-bytes-more}
 use Rattle.strip.proofs.write.put_path.Needs as need
 

@@ -1,4 +1,4 @@
-use lib.ListN.{length, take}
+use lib.ListN.{take}
 use mathlib.Core.Path.{_≡_}
 use Prim.Native.Nat.{_+_, _*_}
 use Rattle.tree.specs.Path.{path-bytes}

@@ -1,9 +1,8 @@
-use mathlib.Core.Path.{_≡_, refl, sym, ap, ap₂, _∙_}
-use mathlib.Core.List.{List, [], _∷_}
-use Prim.Native.Nat.{ℕ}
+use mathlib.Core.Path.{sym, ap, _∙_}
+use mathlib.Core.List.{[], _∷_}
 use Rattle.std.proofs.shelf.Results.{made-weaker}
 use Rattle.strip.specs.Refusals.{numbered}
-use Rattle.text.proofs.Wording.{line-of-one, line-of-two}
+use Rattle.text.proofs.Wording.{line-of-one}
 use Rattle.text.proofs.answer.refused.Needs as need
 
 pub returns-in-Height : need.returns-in-Height

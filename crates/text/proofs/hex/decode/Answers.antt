@@ -1,13 +1,12 @@
-use native.Mathlib.Omega.{arith}
-use mathlib.Core.Path.{_≡_, refl, sym, ap, _∙_}
-use mathlib.Core.List.{List, [], _∷_}
-use Prim.Native.Nat.{ℕ, _+_, _*_}
+use mathlib.Core.Path.{refl, sym, ap, _∙_}
+use mathlib.Core.List.{[], _∷_}
+use Prim.Native.Nat.{_+_, _*_}
 use lib.ListN.{drop}
 use Rattle.std.specs.Of.Vec.{vec-items}
 use Rattle.std.specs.declared.option.Option.the-variants.{Some, None}
 use Rattle.std.proofs.shelf.Parts.{pushed}
 use Rattle.text.specs.Hex.{bytes-of}
-use Rattle.text.proofs.Decoding.{after, after-none, odd-none, pair-read, pair-more, all-read}
+use Rattle.text.proofs.Decoding.{after, odd-none, pair-read, pair-more, all-read}
 use Rattle.text.proofs.hex.decode.Needs as need
 
 pub returns-then-text-ne0 : need.returns-then-text-ne0

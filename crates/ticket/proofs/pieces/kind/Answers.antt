@@ -1,13 +1,13 @@
 use native.Mathlib.Omega.{arith}
-use mathlib.Core.Path.{_≡_, refl, sym, ap, subst, _∙_}
+use mathlib.Core.Path.{_≡_, sym, ap, subst, _∙_}
 use mathlib.Core.List.{List}
-use Prim.Native.Nat.{ℕ, _+_, _<_}
+use Prim.Native.Nat.{ℕ}
 use native.Mathlib.Nat.{add-zero}
-use lib.ListN.{length, getD, drop, length-drop}
+use lib.ListN.{getD, drop, length-drop}
 use Rattle.std.proofs.shelf.Lists.{getD-drop}
 use Rattle.std.proofs.shelf.Results.{err-from-errBy}
 use Rattle.ticket.specs.Texts.{kind-line}
-use Rattle.ticket.specs.Pieces.{Stands, Fails, Wrong-word}
+use Rattle.ticket.specs.Pieces.{Stands, Fails}
 use Rattle.ticket.proofs.Names.{kind-none, kind-fails}
 use Rattle.ticket.proofs.pieces.kind.Needs as need
 

@@ -1,9 +1,9 @@
 use native.Mathlib.Omega.{arith}
 use mathlib.Core.Path.{_≡_, refl, sym, ap, _∙_}
 use mathlib.Core.List.{List}
-use Prim.Native.Nat.{ℕ, _+_, _-_, _<_, _≤_}
+use Prim.Native.Nat.{ℕ, _≤_}
 use native.Mathlib.Nat.{add-zero}
-use lib.ListN.{length, getD, drop, length-drop}
+use lib.ListN.{getD, drop, length-drop}
 use Rattle.std.proofs.shelf.Lists.{getD-drop}
 use Rattle.ticket.proofs.Numerals.{number-none, number-after-one, number-after-two, stands-one, stands-two}
 use Rattle.ticket.proofs.pieces.number.Needs as need

@@ -1,13 +1,13 @@
 use native.Mathlib.Omega.{arith}
-use mathlib.Core.Path.{_≡_, refl, sym, ap, _∙_}
-use mathlib.Core.List.{List, [], _∷_, _++_}
-use Prim.Native.Nat.{ℕ, _<_, _≤_}
+use mathlib.Core.Path.{_≡_, refl, ap, _∙_}
+use mathlib.Core.List.{List, [], _++_}
+use Prim.Native.Nat.{ℕ}
 use lib.Chars.{codes}
-use lib.ListN.{length, take, drop}
+use lib.ListN.{take}
 use Rattle.std.proofs.shelf.Results.{err-from-errBy}
 use Rattle.std.proofs.shelf.Lists.{drop-all}
-use Rattle.ticket.specs.Texts.{Ticket, Sayable, kind-line, number-line, hex-text, ticket-text}
-use Rattle.ticket.proofs.Chain.{kinds, heights, subtrees, seeds, some-kind, some-height, some-subtree, some-seed, wrong-text, wrong-end, some-literal, past-literal, kind-here, kind-later, height-here, height-later, subtree-here, subtree-later, seed-here, seed-later, from-pieces}
+use Rattle.ticket.specs.Texts.{Ticket, kind-line, number-line, hex-text, ticket-text}
+use Rattle.ticket.proofs.Chain.{kinds, heights, subtrees, seeds, some-kind, some-height, some-subtree, some-seed, wrong-text, wrong-end, some-literal, past-literal, kind-here, kind-later, height-here, height-later, subtree-here, subtree-later, seed-here, seed-later}
 use Rattle.ticket.proofs.read.fields.Needs as need
 
 pub returns-in-Break-maker : need.returns-in-Break-maker

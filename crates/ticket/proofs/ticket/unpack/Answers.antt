@@ -1,13 +1,10 @@
 use native.Mathlib.Omega.{arith}
-use mathlib.Core.Path.{_≡_, refl, sym, ap, _∙_}
-use mathlib.Core.List.{List, _++_}
+use mathlib.Core.Path.{_≡_, _∙_}
+use mathlib.Core.List.{List}
 use Prim.Native.Nat.{ℕ, _≤_}
-use lib.Dec.{ltb}
-use lib.ListN.{length, take, drop, replicate}
+use lib.ListN.{length, take}
 use Rattle.std.specs.declared.result.Result.{Result}
 use Rattle.std.specs.declared.result.Result.the-variants.{Ok, Err}
-use Rattle.std.proofs.shelf.Tests.{cond-false, le-ltb}
-use Rattle.ticket.specs.Reading.{wiped}
 use Rattle.tree.specs.declared.fault.TooShort.{TooShort}
 use Rattle.tree.specs.Seeds.{Reseeds}
 use Rattle.ticket.proofs.ticket.unpack.Needs as need

@@ -1,4 +1,3 @@
-use native.Mathlib.Omega.{arith}
 use Rattle.tree.proofs.Aligning.{fits}
 use Rattle.tree.proofs.dummy.join_intervals.Needs as need
 

@@ -1,5 +1,5 @@
 use mathlib.Core.Path.{sym}
-use Rattle.tree.proofs.Spanning.{span-sound, span-broken}
+use Rattle.tree.proofs.Spanning.{span-sound}
 use Rattle.tree.proofs.dummy.span_of.Needs as need
 
 pub returns-then-is-whole : need.returns-then-is-whole
