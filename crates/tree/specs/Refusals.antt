@@ -4,6 +4,7 @@ use mathlib.Core.Bool.{Bool, cond}
 use Prim.Native.Nat.{ℕ}
 use Rattle.std.specs.declared.option.Option.{Option}
 use Rattle.std.specs.declared.option.Option.the-variants.{Some, None}
+use Rattle.tree.specs.declared.fault.TooShort.{TooShort}
 use Rattle.tree.specs.declared.refusal.Refusal.{Refusal}
 use Rattle.tree.specs.declared.refusal.Refusal.the-variants.{Height, Subtree}
 
@@ -11,6 +12,10 @@ use Rattle.tree.specs.declared.refusal.Refusal.the-variants.{Height, Subtree}
 abbrev pub numbered : Refusal → ℕ × List ℕ
 numbered (Height H) = (1, H ∷ [])
 numbered (Subtree h) = (2, h ∷ [])
+
+-- the same of a slice that is too short
+abbrev pub short-numbered : TooShort → ℕ × List ℕ
+short-numbered e = (7, e .needed ∷ [])
 
 -- Checks in their order, each with the refusal of its failure: the first that fails.
 abbrev pub first-refusal : {R : Type 0} → List (Bool × R) → Option R
