@@ -1,6 +1,8 @@
 -- Worked figures of the definitions.
 use mathlib.Core.Path.{_≡_}
+use mathlib.Core.Bool.{true}
 use Rattle.tree.specs.Geometry.{table-size}
+use Rattle.tree.specs.Numbers.{aligned}
 use Rattle.tree.specs.Tree.{sibling-index}
 use Rattle.tree.specs.Spans.{span, join-spans, dummy-meaning}
 use Rattle.tree.specs.Digests.{sealed-meaning}
@@ -17,7 +19,8 @@ pub record Figures : Type 0 where
   pub sibling-0 : sibling-index 5 0 ≡ 4
   pub sibling-1 : sibling-index 5 1 ≡ 3
   pub sibling-2 : sibling-index 5 2 ≡ 0
-  -- joins of the dummy maker
+  -- joins of the dummy maker, of spans that are none of them broken
+  pub sound : (aligned 4 0 ≡ true) × (aligned 5 0 ≡ true) × (aligned 6 0 ≡ true) × (aligned 4 1 ≡ true)
   pub neighbours : join-spans (span 4 0) (span 5 0) ≡ span 4 1
   pub strangers : join-spans (span 5 0) (span 6 0) ≡ Broken
   -- strips of height 4

@@ -10,6 +10,7 @@ returns c = record {
   sibling-0 = refl;
   sibling-1 = refl;
   sibling-2 = refl;
+  sound = (refl, refl, refl, refl);
   neighbours = refl;
   strangers = refl;
   sealed-strip = refl;
