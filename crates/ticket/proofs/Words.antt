@@ -3,9 +3,14 @@ use mathlib.Core.Path.{_≡_, sym, ap, ap₂, _∙_}
 use mathlib.Core.List.{List, _++_}
 use Prim.Native.Nat.{ℕ, _+_, _<_, _≤_}
 use native.Mathlib.Omega.{arith}
+use native.Mathlib.Nat.{add-zero}
 use lib.ListN.{length, getD, take, drop, length-append}
-use Rattle.std.proofs.shelf.Lists.{take-append-drop, take-all, drop-drop, take-take, take-append-le, length-take-le, getD-take, getD-append-left}
+use Rattle.std.proofs.shelf.Lists.{getD-drop, take-append-drop, take-all, drop-drop, take-take, take-append-le, length-take-le, getD-take, getD-append-left}
 use Rattle.ticket.specs.Pieces.{Wrong-word, Stands}
+
+-- the first byte from a place on
+pub first-at : (text : List ℕ) (at : ℕ) → getD (drop at text) 0 0 ≡ getD text at 0
+first-at text at = getD-drop at text 0 0 ∙ ap (λ k. getD text k 0) (add-zero at)
 
 -- the byte at k of a list that goes on after k
 front-byte : (xs rest : List ℕ) (k : ℕ) → k < length xs → getD (take (k + 1) xs ++ rest) k 0 ≡ getD xs k 0

@@ -1,19 +1,15 @@
 use native.Mathlib.Omega.{arith}
-use mathlib.Core.Path.{_≡_, sym, ap, subst, _∙_}
+use mathlib.Core.Path.{sym, subst, _∙_}
 use mathlib.Core.List.{List}
 use Prim.Native.Nat.{ℕ}
 use native.Mathlib.Nat.{add-zero}
-use lib.ListN.{getD, drop, length-drop}
-use Rattle.std.proofs.shelf.Lists.{getD-drop}
+use lib.ListN.{drop, length-drop}
 use Rattle.std.proofs.shelf.Results.{err-from-errBy}
 use Rattle.ticket.specs.Texts.{kind-line}
 use Rattle.ticket.specs.Pieces.{Stands, Fails}
 use Rattle.ticket.proofs.Names.{kind-none, kind-fails}
+use Rattle.ticket.proofs.Words.{first-at}
 use Rattle.ticket.proofs.pieces.kind.Needs as need
-
--- the first byte from a place on
-first-at : (text : List ℕ) (at : ℕ) → getD (drop at text) 0 0 ≡ getD text at 0
-first-at text at = getD-drop at text 0 0 ∙ ap (λ k. getD text k 0) (add-zero at)
 
 pub returns-in-rest : need.returns-in-rest
 returns-in-rest c =

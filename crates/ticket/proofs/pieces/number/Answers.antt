@@ -1,16 +1,13 @@
 use native.Mathlib.Omega.{arith}
-use mathlib.Core.Path.{_≡_, refl, sym, ap, _∙_}
+use mathlib.Core.Path.{refl, sym, _∙_}
 use mathlib.Core.List.{List}
 use Prim.Native.Nat.{ℕ, _≤_}
 use native.Mathlib.Nat.{add-zero}
-use lib.ListN.{getD, drop, length-drop}
+use lib.ListN.{drop, length-drop}
 use Rattle.std.proofs.shelf.Lists.{getD-drop}
 use Rattle.ticket.proofs.Numerals.{number-none, number-after-one, number-after-two, stands-one, stands-two}
+use Rattle.ticket.proofs.Words.{first-at}
 use Rattle.ticket.proofs.pieces.number.Needs as need
-
--- the first byte from a place on
-first-at : (text : List ℕ) (at : ℕ) → getD (drop at text) 0 0 ≡ getD text at 0
-first-at text at = getD-drop at text 0 0 ∙ ap (λ k. getD text k 0) (add-zero at)
 
 pub returns-in-rest : need.returns-in-rest
 returns-in-rest c =
