@@ -7,7 +7,11 @@ use text::hex::NoBytesError;
 use text::hex::decode;
 
 fn main(rt: LibcRuntime) -> Result<(), AnyError> {
-    rt.report(run(&rt))
+    if let Err(error) = run(&rt) {
+        eprintln!(rt, "checker: {error}")?;
+        return Err(error);
+    }
+    Ok(())
 }
 
 fn run(rt: &LibcRuntime) -> Result<(), AnyError> {
