@@ -6,6 +6,9 @@ ghost use Rattle.ticket.specs.Texts.{kind-line};
 use crate::job::Kind;
 use strip::hex::digit;
 
+// The digit with which no number begins.
+const NO_FIRST_DIGIT: u32 = 0;
+
 // How many bytes a seed has.
 pub(crate) const SEED_LENGTH: usize = 32;
 
@@ -67,7 +70,7 @@ pub(crate) fn number(text: &[u8], at: usize) -> Result<(u32, usize), usize>
     let Some(first) = digit_at(text, at) else {
         return Err(at);
     };
-    if first == 0 {
+    if first == NO_FIRST_DIGIT {
         return Err(at);
     }
     if ends_line(text, at + 1) {
