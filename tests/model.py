@@ -128,14 +128,18 @@ def verdict(root, data):
     return "yes" if node == root else "no"
 
 
-def damaged(data):
-    """The strip itself, each byte changed in turn, every shorter strip, and two longer ones."""
+def damaged(data, masks):
+    """The bytes themselves, each byte changed in turn by each mask, and every shorter prefix."""
     yield "whole", data
     for i in range(len(data)):
-        for by in (1, 128):
+        for by in masks:
             yield "byte %d by %d" % (i, by), data[:i] + bytes([data[i] ^ by]) + data[i + 1:]
     for size in range(len(data)):
         yield "cut to %d" % size, data[:size]
+
+
+def damaged_strip(data):
+    yield from damaged(data, (1, 128))
     yield "one more", data + b"\x00"
     yield "doubled", data + data
 
@@ -201,12 +205,7 @@ def agree(shape, text):
 
 
 def damaged_ticket(text):
-    yield "whole", text
-    for i in range(len(text)):
-        for by in (1, 64):
-            yield "byte %d by %d" % (i, by), text[:i] + bytes([text[i] ^ by]) + text[i + 1:]
-    for size in range(len(text)):
-        yield "cut to %d" % size, text[:size]
+    yield from damaged(text, (1, 64))
     yield "one more", text + b"\n"
 
 
@@ -234,7 +233,7 @@ def files():
     out["crates/checker/stdout"] = verdict(named[0][1], named[0][2]) + "\n"
     out["crates/damage/stdin"] = "".join("%s\n%s\n" % (root.hex(), data.hex()) for _, root, data in named)
     out["crates/damage/stdout"] = "".join(
-        "%s: %s\n" % (what, verdict(root, data)) for _, root, whole in named for what, data in damaged(whole))
+        "%s: %s\n" % (what, verdict(root, data)) for _, root, whole in named for what, data in damaged_strip(whole))
     out["examples/ticket.txt"] = TICKET.decode()
     out["crates/tickets/stdin"] = TICKET.decode()
     out["crates/tickets/stdout"] = "".join("%s: %s\n" % (what, ticket(text)) for what, text in damaged_ticket(TICKET)) + "".join(
