@@ -1,3 +1,5 @@
+#![tactic(auto)]
+
 // Checks a printed proof strip against a root: reads the root and the strip in hex, a line each, and
 // prints the verdict.
 use anyhow::anyhow;

@@ -1,3 +1,5 @@
+#![tactic(auto)]
+
 // Judges every root and strip of the input as they are and after damage to the strip: each byte changed
 // in turn, every shorter strip, and two longer ones.
 use std::alloc::{AllocError, Global};

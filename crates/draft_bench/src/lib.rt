@@ -1,5 +1,7 @@
 //! A sealed draft for a program in another language, to measure it, and the digests of one alone.
 
+#![tactic(auto)]
+
 ghost use Rattle.std.specs.Prelude.{◌≡◌, ◌<◌, ◌≤◌, true, false, ◌++◌, length, drop, Some};
 ghost use Rattle.draft_bench.specs.Roots.{seed_root, WritesRoot};
 

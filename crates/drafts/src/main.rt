@@ -1,3 +1,5 @@
+#![tactic(auto)]
+
 // Drafts trees by steps and prints what the calls answer: whole drafts with the cells of their tables, drafts
 // that lack tokens, and the refusals.
 mod draft;

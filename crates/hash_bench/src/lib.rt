@@ -1,5 +1,7 @@
 //! `hashing::digest` for a program in another language, to measure it.
 
+#![tactic(auto)]
+
 ghost use Rattle.std.specs.Prelude.{◌<◌, ◌≤◌, drop, length, false, true, ◌++◌, ◌≡◌};
 ghost use Rattle.hashing.specs.Sha256.{sha256};
 

@@ -1,5 +1,7 @@
 //! SHA-256 (FIPS 180-4).
 
+#![tactic(auto)]
+
 ghost use Rattle.std.specs.Prelude.{◌≡◌};
 ghost use Rattle.hashing.specs.Sha256.{sha256};
 

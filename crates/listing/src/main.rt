@@ -1,3 +1,5 @@
+#![tactic(auto)]
+
 // Drafts the tree that the job ticket of the input asks for, and prints its root and the number of nodes
 // that the draft made; or why there is none.
 use session::root::root;

@@ -1,3 +1,5 @@
+#![tactic(auto)]
+
 // Whole sessions of calls: from legal heights to the root, with the law over every list of calls.
 pub mod call;
 pub mod held;

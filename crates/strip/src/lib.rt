@@ -1,3 +1,5 @@
+#![tactic(auto)]
+
 // Proof strips: written, read, and checked against the root of a tree.
 pub mod check;
 pub mod figures;

@@ -1,3 +1,5 @@
+#![tactic(auto)]
+
 // Job tickets: four lines of text that name a maker, two heights and a secret seed.
 pub mod job;
 mod pieces;

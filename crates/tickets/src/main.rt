@@ -1,3 +1,5 @@
+#![tactic(auto)]
+
 // Reads the job ticket of the input as it is and after damage: each byte changed in turn, every shorter
 // text, and a longer one. Then asks for the sizes of some tables.
 use std::alloc::Global;

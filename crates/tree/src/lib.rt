@@ -1,3 +1,5 @@
+#![tactic(auto)]
+
 // Merkle trees over one-time tokens: what makes nodes, what the full tree is, and the fold from a leaf
 // to the root.
 pub mod counter;

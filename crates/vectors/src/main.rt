@@ -1,5 +1,7 @@
 //! Runs published examples of SHA-256 through `hashing::digest`.
 
+#![tactic(auto)]
+
 ghost use Rattle.std.specs.Prelude.{◌≡◌, ◌<◌, Decides};
 ghost use Rattle.hashing.specs.Sha256.{sha256};
 ghost use Rattle.vectors.specs.Hex.{hex_digit, hex_pair, hex_text};
