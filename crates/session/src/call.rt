@@ -18,7 +18,7 @@ pub fn call<M: Maker, S: Source>(
     source: &mut S,
 ) -> (Held, Call)
     ensures asked { asked result.1 ≡ ask }
-    ensures made { History (Drafting draft) (world table.old (meaning maker.old) (meter maker.old) (supply source.old)) (result.1 ∷ []) result.0 (world table.new (meaning maker.new) (meter maker.new) (supply source.new)) }
+    ensures made { History (Drafting draft) (world table.old (M.meaning maker.old) (M.meter maker.old) (S.supply source.old)) (result.1 ∷ []) result.0 (world table.new (M.meaning maker.new) (M.meter maker.new) (S.supply source.new)) }
 {
     match ask {
         Ask::Step(budget) => {

@@ -16,8 +16,8 @@ pub fn open<M: Maker, S: Source>(
     maker: &M,
     source: &S,
 ) -> Result<Draft, Refusal>
-    ensures begun { Begun height subtree (length table.now) (supply source.now) result }
-    ensures lawful { LawfulFrom height subtree (world table.now (meaning maker.now) (meter maker.now) (supply source.now)) result }
+    ensures begun { Begun height subtree (length table.now) (S.supply source.now) result }
+    ensures lawful { LawfulFrom height subtree (world table.now (M.meaning maker.now) (M.meter maker.now) (S.supply source.now)) result }
 {
     let _ = maker;
     Draft::begin(height, subtree, table, source)

@@ -19,7 +19,7 @@ pub fn root<M: Maker, S: Source>(
     maker: &mut M,
     source: &mut S,
 ) -> Result<(M::Node, (u64, u64)), Refusal>
-    ensures { DraftsRoot height subtree (world table.old (meaning maker.old) (meter maker.old) (supply source.old)) result (world table.new (meaning maker.new) (meter maker.new) (supply source.new)) }
+    ensures { DraftsRoot height subtree (world table.old (M.meaning maker.old) (M.meter maker.old) (S.supply source.old)) result (world table.new (M.meaning maker.new) (M.meter maker.new) (S.supply source.new)) }
 {
     let mut draft = open(height, subtree, table, maker, source)?;
     let _ = draft.step(table, maker, source, u64::MAX);
@@ -50,9 +50,9 @@ fn lack<M: Maker, S: Source>(
 ) -> Refusal
     requires room { draft.cells ≤ length table.old }
     requires unfinished { units draft < units_in_all draft }
-    requires lacks { (r : Refused) × (unit_lacks draft (supply source.old) ≡ Some r) }
-    ensures lacks { unit_lacks draft (supply source.old) ≡ Some result }
-    ensures keeps { world table.new (meaning maker.new) (meter maker.new) (supply source.new) ≡ world table.old (meaning maker.old) (meter maker.old) (supply source.old) }
+    requires lacks { (r : Refused) × (unit_lacks draft (S.supply source.old) ≡ Some r) }
+    ensures lacks { unit_lacks draft (S.supply source.old) ≡ Some result }
+    ensures keeps { world table.new (M.meaning maker.new) (M.meter maker.new) (S.supply source.new) ≡ world table.old (M.meaning maker.old) (M.meter maker.old) (S.supply source.old) }
 {
     let mut draft = draft;
     let answer = draft.step(table, maker, source, 1);

@@ -8,9 +8,9 @@ use tree::maker::Maker;
 
 // Whether a strip's token and path lead to the root.
 pub fn check<M: Maker>(maker: &mut M, bytes: &[u8], root: M::Node) -> Result<bool, Refusal>
-    ensures answer { Checks (meaning maker.old) bytes.now root (meter maker.old) (meter maker.new) result }
-    ensures full_tree { AcceptsFullTree (meaning maker.old) bytes.now root result }
-    ensures keeps { meaning maker.new ≡ meaning maker.old }
+    ensures answer { Checks (M.meaning maker.old) bytes.now root (M.meter maker.old) (M.meter maker.new) result }
+    ensures full_tree { AcceptsFullTree (M.meaning maker.old) bytes.now root result }
+    ensures keeps { M.meaning maker.new ≡ M.meaning maker.old }
 {
     let Strip {
         height: _,

@@ -29,7 +29,7 @@ pub fn judge(root: &[u8], bytes: &[u8]) -> Result<bool, Refusal>
 
 // The same with a given maker.
 pub(crate) fn judge_by<M: Maker>(maker: &mut M, root: &[u8], bytes: &[u8]) -> Result<bool, Refusal>
-    ensures { Judges (meaning maker.old) root.now bytes.now result }
+    ensures { Judges (M.meaning maker.old) root.now bytes.now result }
 {
     parse(maker, bytes)?;
     let width = maker.width();

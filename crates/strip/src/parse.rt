@@ -112,7 +112,7 @@ fn count<'a>(bytes: &[u8], height: u32, rest: &'a [u8]) -> Result<&'a [u8], Faul
 fn only_nodes<M: Maker>(maker: &M, bytes: &[u8], height: u32, nodes: &[u8]) -> Result<(), Fault>
     requires within { 41 ≤ length bytes.now }
     requires here { nodes.now ≡ drop 41 bytes.now }
-    ensures { NodesRead (meaning maker.now) bytes.now height result }
+    ensures { NodesRead (M.meaning maker.now) bytes.now height result }
 {
     let width = maker.width();
     let mut place = NODES_PLACE;
@@ -145,7 +145,7 @@ fn only_nodes<M: Maker>(maker: &M, bytes: &[u8], height: u32, nodes: &[u8]) -> R
 
 // Takes a strip apart, section by section.
 pub fn parse<'a, M: Maker>(maker: &M, bytes: &'a [u8]) -> Result<Strip<'a>, Fault>
-    ensures { Parsed (meaning maker.now) bytes.now result }
+    ensures { Parsed (M.meaning maker.now) bytes.now result }
 {
     let HeadPart {
         height,

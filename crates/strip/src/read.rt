@@ -13,8 +13,8 @@ pub fn read<'a, M: Maker>(
     bytes: &'a [u8],
     cells: &mut [M::Node],
 ) -> Result<Strip<'a>, Refusal>
-    ensures answer { ReadsStrip (meaning maker.now) bytes.now cells.old cells.new result }
-    ensures spells_back { SpellsBack (meaning maker.now) bytes.now cells.new result }
+    ensures answer { ReadsStrip (M.meaning maker.now) bytes.now cells.old cells.new result }
+    ensures spells_back { SpellsBack (M.meaning maker.now) bytes.now cells.new result }
 {
     let strip = parse(maker, bytes)?;
     let height = strip.height as usize;
@@ -28,8 +28,8 @@ pub fn read<'a, M: Maker>(
 // Fills the first cells with the nodes at the front of a path that has as many.
 fn fill<M: Maker>(maker: &M, path: &[u8], height: usize, cells: &mut [M::Node])
     requires room { height ≤ length cells.old }
-    requires nodes { length (nodes_of (meaning maker.now) height path.now) ≡ height }
-    ensures { cells.new ≡ nodes_of (meaning maker.now) height path.now ++ drop height cells.old }
+    requires nodes { length (nodes_of (M.meaning maker.now) height path.now) ≡ height }
+    ensures { cells.new ≡ nodes_of (M.meaning maker.now) height path.now ++ drop height cells.old }
 {
     let width = maker.width();
     let mut rest = path;

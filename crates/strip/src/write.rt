@@ -17,7 +17,7 @@ pub fn write<M: Maker>(
     token: &[u8],
     out: &mut [u8],
 ) -> Result<usize, Refusal>
-    ensures { Writes (meaning maker.now) height number path.now token.now out.old out.new result }
+    ensures { Writes (M.meaning maker.now) height number path.now token.now out.old out.new result }
 {
     let needed = room(maker, height, number, path.len(), token.len(), out.len())?;
     let count = height as u8;
@@ -39,7 +39,7 @@ fn room<M: Maker>(
     token: usize,
     out: usize,
 ) -> Result<usize, Refusal>
-    ensures { Refuses (meaning maker.now) height number nodes token out result }
+    ensures { Refuses (M.meaning maker.now) height number nodes token out result }
 {
     if !is_height(height) {
         return Err(Refusal::Height(height));
@@ -73,8 +73,8 @@ fn append(out: &mut [u8], at: usize, bytes: &[u8]) -> usize
 
 // Puts the nodes of a path at a place of `out`, one after another.
 fn put_path<M: Maker>(maker: &M, path: &[M::Node], out: &mut [u8], at: usize) -> usize
-    requires { at + length path.now * (meaning maker.now).width ≤ length out.old }
-    ensures { Appends out.old at (path_bytes (meaning maker.now) path.now) out.new result }
+    requires { at + length path.now * (M.meaning maker.now).width ≤ length out.old }
+    ensures { Appends out.old at (path_bytes (M.meaning maker.now) path.now) out.new result }
 {
     let mut end = at;
     for node in path {
@@ -84,8 +84,8 @@ fn put_path<M: Maker>(maker: &M, path: &[M::Node], out: &mut [u8], at: usize) ->
 }
 
 fn put_node<M: Maker>(maker: &M, node: M::Node, out: &mut [u8], at: usize) -> usize
-    requires { at + (meaning maker.now).width ≤ length out.old }
-    ensures { Appends out.old at ((meaning maker.now).put node) out.new result }
+    requires { at + (M.meaning maker.now).width ≤ length out.old }
+    ensures { Appends out.old at ((M.meaning maker.now).put node) out.new result }
 {
     let end = at + maker.width();
     let _ = maker.put(node, &mut out[at..end]);

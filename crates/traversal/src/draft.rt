@@ -22,7 +22,7 @@ impl Draft {
         table: &[N],
         source: &S,
     ) -> Result<Draft, Refusal>
-        ensures { Begun height subtree (length table.now) (supply source.now) result }
+        ensures { Begun height subtree (length table.now) (S.supply source.now) result }
     {
         let cells = size(height, subtree)?;
         if table.len() < cells {
@@ -55,7 +55,7 @@ impl Draft {
         source: &mut S,
         budget: u64,
     ) -> Result<(u64, u64), Refusal>
-        ensures { Stepped self.old (world table.old (meaning maker.old) (meter maker.old) (supply source.old)) budget result self.new (world table.new (meaning maker.new) (meter maker.new) (supply source.new)) }
+        ensures { Stepped self.old (world table.old (M.meaning maker.old) (M.meter maker.old) (S.supply source.old)) budget result self.new (world table.new (M.meaning maker.new) (M.meter maker.new) (S.supply source.new)) }
     {
         if table.len() < self.cells {
             return Err(Refusal::Table(self.cells));
@@ -141,7 +141,7 @@ impl Draft {
     ) -> Result<Made, DraftFault>
         requires room { self.old.cells ≤ length table.old }
         requires unfinished { units self.old < units_in_all self.old }
-        ensures { DraftUnit self.old (world table.old (meaning maker.old) (meter maker.old) (supply source.old)) result self.new (world table.new (meaning maker.new) (meter maker.new) (supply source.new)) }
+        ensures { DraftUnit self.old (world table.old (M.meaning maker.old) (M.meter maker.old) (S.supply source.old)) result self.new (world table.new (M.meaning maker.new) (M.meter maker.new) (S.supply source.new)) }
     {
         let mut hash = self.hash;
         let made = hash.unit(self.plot(), table, maker, source)?;
@@ -158,7 +158,7 @@ impl Draft {
         budget: u64,
     ) -> (u64, u64)
         requires room { self.old.cells ≤ length table.old }
-        ensures { WentOn self.old (world table.old (meaning maker.old) (meter maker.old) (supply source.old)) budget result.0 result.1 self.new (world table.new (meaning maker.new) (meter maker.new) (supply source.new)) }
+        ensures { WentOn self.old (world table.old (M.meaning maker.old) (M.meter maker.old) (S.supply source.old)) budget result.0 result.1 self.new (world table.new (M.meaning maker.new) (M.meter maker.new) (S.supply source.new)) }
     {
         let mut leaves = 0;
         let mut joins = 0;

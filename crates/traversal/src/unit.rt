@@ -53,7 +53,7 @@ impl Treehash {
         requires unfinished { Unfinished plot self.old }
         requires room { Room (layout plot) (depth plot) (length table.old) }
         ensures standing { Standing plot self.new }
-        ensures made { UnitMade plot (world table.old (meaning maker.old) (meter maker.old) (supply source.old)) self.old result (world table.new (meaning maker.new) (meter maker.new) (supply source.new)) self.new }
+        ensures made { UnitMade plot (world table.old (M.meaning maker.old) (M.meter maker.old) (S.supply source.old)) self.old result (world table.new (M.meaning maker.new) (M.meter maker.new) (S.supply source.new)) self.new }
     {
         if self.is_join_due() {
             self.join(plot, table, maker);
@@ -78,7 +78,7 @@ impl Treehash {
         requires room { Room (layout plot) (depth plot) (length table.old) }
         requires due { join_due self.old.leaves self.old.newest ≡ false }
         ensures standing { Standing plot self.new }
-        ensures made { LeafMade plot (world table.old (meaning maker.old) (meter maker.old) (supply source.old)) self.old result (world table.new (meaning maker.new) (meter maker.new) (supply source.new)) self.new }
+        ensures made { LeafMade plot (world table.old (M.meaning maker.old) (M.meter maker.old) (S.supply source.old)) self.old result (world table.new (M.meaning maker.new) (M.meter maker.new) (S.supply source.new)) self.new }
     {
         let number = self.leaves;
         let mut token = [0; 32];
@@ -97,7 +97,7 @@ impl Treehash {
         requires room { Room (layout plot) (depth plot) (length table.old) }
         requires due { join_due self.old.leaves self.old.newest ≡ true }
         ensures standing { Standing plot self.new }
-        ensures made { (s : Supply) → Advanced plot (world table.old (meaning maker.old) (meter maker.old) s) self.old 0 1 (world table.new (meaning maker.new) (meter maker.new) s) self.new }
+        ensures made { (s : Supply) → Advanced plot (world table.old (M.meaning maker.old) (M.meter maker.old) s) self.old 0 1 (world table.new (M.meaning maker.new) (M.meter maker.new) s) self.new }
     {
         let height = self.newest;
         let index = (self.leaves - 1) >> height;

@@ -8,6 +8,6 @@ unfolding sha256 initial
 returns c =
     let m = c.args.message.now in
     let w = length m - length m % 64 in
-    let end = c.absorb-end.ensures in
+    let end = c.absorb_end.ensures in
     let start = c.absorb-hash.ensures in
-    c.to-bytes.ensures ∙ ap bytes_of (rw start at end ∙ absorbed initial m w (w - 0) refl (omega arith))
+    c.to_bytes.ensures ∙ ap bytes_of (rw start at end ∙ absorbed initial m w (w - 0) refl (omega arith))

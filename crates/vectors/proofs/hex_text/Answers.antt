@@ -8,9 +8,9 @@ use Rattle.vectors.proofs.hex_text.Goals as goal
 pub loop-i-preserved : goal.loop-i-preserved
 loop-i-preserved c =
     let i = c.loop-i.i in
-    let part = c.copy-from-slice.new.self in
+    let part = c.copy_from_slice.new.self in
     let within : length c.args.bytes ≡ 32 = search rules in
-    let is : part ≡ hex_pair (get_or c.args.bytes i 0) = c.copy-from-slice.ensures.after ∙ c.hex-pair.ensures in
+    let is : part ≡ hex_pair (get_or c.args.bytes i 0) = c.copy_from_slice.ensures.after ∙ c.hex_pair.ensures in
     let two : length part ≡ 2 = ap length is in (
       length_put_mid (2 * i) (2 * i + 2 - 2 * i) c.loop-i.text part (omega arith) (omega arith) ∙ c.loop-i.invariant.0,
       written hex_pair 2 c.args.bytes c.loop-i.text part i (2 * i + 2 - 2 * i) (omega arith) (omega arith) two

@@ -12,5 +12,5 @@ one_block H = refl
 pub returns-then-total-eq-BLOCK : goal.returns-then-total-eq-BLOCK
 returns-then-total-eq-BLOCK c =
     let nothing : c.args.rest.now ≡ [] = nil_from_length c.args.rest.now (omega arith) in
-    c.absorb-padding.ensures ∙ one_block c.args.hash ∙
+    c.absorb_padding.ensures ∙ one_block c.args.hash ∙
     rw (nothing, c.if-total-eq-BLOCK.true) refl

@@ -5,5 +5,5 @@ use Rattle.hashing.proofs.state.words_of.Goals as goal
 
 pub loop-j-preserved : goal.loop-j-preserved
 loop-j-preserved c k h =
-    ap (λ v. get_or (set c.loop-j.word-items c.loop-j.j v) k 0) c.word-at.ensures ∙
+    ap (λ v. get_or (set c.loop-j.word-items c.loop-j.j v) k 0) c.word_at.ensures ∙
     fill_by_more (word_at c.args.block.now) c.loop-j.word-items c.loop-j.j 0 (omega arith) c.loop-j.invariant k h

@@ -9,22 +9,22 @@ use Rattle.strip.specs.Calls.{Checks}
 use Rattle.strip.proofs.Leading.{never_none, leads_up, nodes_made, accepts}
 use Rattle.strip.proofs.check.check.Goals as goal
 
-pub returns-in-err-number : goal.returns-in-err-number
-returns-in-err-number g c =
+pub returns-in_err-number : goal.returns-in_err-number
+returns-in_err-number g c =
     let maker = c.args.maker.now in
     let m = g.M.Maker.meaning maker in
     let bs : List ℕ = c.args.bytes.now in
-    let p = err_from_is_err_and c.from-residual.result c.from-residual.ensures.1 in
-    let refused = ap (λ o. or_else o None) c.in-err-number.ensures in
-    let answer : Checks m bs c.args.root (g.M.Maker.meter maker) (g.M.Maker.meter maker) c.from-residual.result = rw (p.1, p.2) (refused, refl) in
-    record { answer = answer; full-tree = accepts m (g.met.M.Maker.lawful maker) bs c.args.root _ _ c.from-residual.result answer; keeps = refl }
+    let p = err_from_is_err_and c.from_residual.result c.from_residual.ensures.1 in
+    let refused = ap (λ o. or_else o None) c.in_err-number.ensures in
+    let answer : Checks m bs c.args.root (g.M.Maker.meter maker) (g.M.Maker.meter maker) c.from_residual.result = rw (p.1, p.2) (refused, refl) in
+    record { answer = answer; full_tree = accepts m (g.met.M.Maker.lawful maker) bs c.args.root _ _ c.from_residual.result answer; keeps = refl }
 
 pub unreachable-requires : goal.unreachable-requires
 unreachable-requires g c =
     let maker = c.args.maker.now in
     let m = g.M.Maker.meaning maker in
-    let p = c.in-ok-number.ensures in
-    let none = c.in-default.ensures.value ∙ ap (λ k. folded k c.in-ok-number.field-0.number c.leaf-leaf.result c.in-ok-number.field-0.path.now) c.leaf-leaf.ensures.keeps in
+    let p = c.in_ok-number.ensures in
+    let none = c.in_default.ensures.value ∙ ap (λ k. folded k c.in_ok-number.field-0.number c.leaf-leaf.result c.in_ok-number.field-0.path.now) c.leaf-leaf.ensures.keeps in
     never_none m (g.met.M.Maker.lawful maker) c.args.bytes.now p.0 _ _ _ p.2 p.3 p.4 c.leaf-leaf.result none
 
 pub returns : goal.returns
@@ -33,11 +33,11 @@ returns g c =
     let m = g.M.Maker.meaning maker in
     let lawful = g.met.M.Maker.lawful maker in
     let bs : List ℕ = c.args.bytes.now in
-    let p = c.in-ok-number.ensures in
+    let p = c.in_ok-number.ensures in
     let made = c.leaf-leaf.ensures in
     let up = c.in-Some.ensures in
-    let n : ℕ = c.in-ok-number.field-0.number in
-    let path : List ℕ = c.in-ok-number.field-0.path.now in
+    let n : ℕ = c.in_ok-number.field-0.number in
+    let path : List ℕ = c.in_ok-number.field-0.path.now in
     let folds = up.value ∙ ap (λ k. folded k n c.leaf-leaf.result path) made.keeps in
     let top = leads_up m lawful bs p.0 n _ path p.2 p.3 p.4 c.leaf-leaf.result c.in-Some.top made.value folds in
     let joins = ap (λ k. length (path_nodes k path)) made.keeps ∙ nodes_made m lawful bs p.0 n _ path p.2 p.3 p.4 in
@@ -47,4 +47,4 @@ returns g c =
       (λ yes. sym top ∙ verdict.0 yes, λ e. verdict.1 (top ∙ e)),
       up.counts ∙ ap₂ (after 0) joins made.counts ∙ after_after 1 0 0 (height_in bs) (g.M.Maker.meter maker) ∙ ap (λ k. after 1 k (g.M.Maker.meter maker)) (zero-add (height_in bs)),
     ) in
-    record { answer = answer; full-tree = accepts m lawful bs c.args.root _ _ (Ok c.same.result) answer; keeps = up.keeps ∙ made.keeps }
+    record { answer = answer; full_tree = accepts m lawful bs c.args.root _ _ (Ok c.same.result) answer; keeps = up.keeps ∙ made.keeps }

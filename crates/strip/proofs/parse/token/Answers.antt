@@ -8,6 +8,6 @@ returns-in-32 c =
     let rest : List ℕ = c.args.rest.now in
     let secret = take_rest rest 1 ∙ ap (drop 1) c.requires.here ∙ drop-drop 1 7 bs in (
       search rules,
-      c.split-at.ensures.front ∙ ap (take 32) secret,
-      c.split-at.ensures.back ∙ ap (drop 32) secret ∙ drop-drop 32 8 bs,
+      c.split_at.ensures.front ∙ ap (take 32) secret,
+      c.split_at.ensures.back ∙ ap (drop 32) secret ∙ drop-drop 32 8 bs,
     )

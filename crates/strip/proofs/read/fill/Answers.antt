@@ -8,7 +8,7 @@ loop-i-init g c = filled_none (g.M.Maker.meaning c.args.maker.now) c.args.path.n
 
 pub unreachable-requires : goal.unreachable-requires
 unreachable-requires g c =
-    not_none (g.M.Maker.meaning c.args.maker.now) c.args.path.now c.args.height c.args.cells.now c.loop-i.invariant c.loop-i-test.true c.in-default.ensures.value
+    not_none (g.M.Maker.meaning c.args.maker.now) c.args.path.now c.args.height c.args.cells.now c.loop-i.invariant c.loop-i-test.true c.in_default.ensures.value
 
 pub loop-i-preserved : goal.loop-i-preserved
 loop-i-preserved g c =

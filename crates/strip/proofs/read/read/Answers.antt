@@ -14,7 +14,7 @@ use Rattle.strip.proofs.read.read.Goals as goal
 pub fill-requires : goal.fill-requires
 fill-requires g c =
     let m = g.M.Maker.meaning c.args.maker.now in
-    let p = c.in-ok-strip.ensures in
+    let p = c.in_ok-strip.ensures in
     record {
       room = c.if-cells-height.false;
       nodes = ap₂ (λ k l. length (nodes_of m k l)) p.1 p.4 ∙ (faultless m c.args.bytes.now p.0).nodes ∙ sym p.1;
@@ -24,7 +24,7 @@ pub returns : goal.returns
 returns g c =
     let m = g.M.Maker.meaning c.args.maker.now in
     let bs : List ℕ = c.args.bytes.now in
-    let p = c.in-ok-strip.ensures in
+    let p = c.in_ok-strip.ensures in
     let whole = faultless m bs p.0 in
     let room : height_in bs ≤ length c.args.cells.now = omega (arith, p.1) in
     let filled = c.fill.ensures ∙ ap₂ (λ k l. nodes_of m k l ++ drop k c.args.cells.now) p.1 p.4 in
@@ -39,6 +39,6 @@ returns g c =
         p.4,
         filled,
       );
-      spells-back = λ one.
+      spells_back = λ one.
           (λ i. strip_bytes m (p.1 i) (p.2 i) (p.3 i) (front i)) ∙ strip_spelled m one bs (λ i. (c.type-inv.bytes i).fits) whole;
     }

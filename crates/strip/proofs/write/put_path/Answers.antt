@@ -7,8 +7,8 @@ use Rattle.strip.proofs.write.put_path.Goals as goal
 pub loop-node-init : goal.loop-node-init
 loop-node-init g c = (rw zero-mul (omega arith), appends_none c.args.out.now c.args.at)
 
-pub put-node-end-requires : goal.put-node-end-requires
-put-node-end-requires g c =
+pub put_node-end-requires : goal.put_node-end-requires
+put_node-end-requires g c =
     let w : ℕ = (g.M.Maker.meaning c.args.maker.now).width in
     let i : ℕ = c.loop-node.node-index in
     let room : c.args.at + length c.args.path.now * w ≤ length c.args.out.now = c.requires in
@@ -20,7 +20,7 @@ pub loop-node-preserved : goal.loop-node-preserved
 loop-node-preserved g c =
     let m = g.M.Maker.meaning c.args.maker.now in
     let i : ℕ = c.loop-node.node-index in
-    let put = c.put-node-end.ensures in
+    let put = c.put_node-end.ensures in
     let fills = (g.met.M.Maker.lawful c.args.maker.now).fills c.node-item.result in
     let one : (i + 1) * m.width ≡ i * m.width + m.width = simp (add-mul, one-mul) in
     let more = path_bytes_more m c.args.path.now i c.node-item.result c.loop-node-test.true c.node-item.is in

@@ -7,4 +7,4 @@ use Rattle.text.proofs.answer.refused.Goals as goal
 pub returns-in-Height : goal.returns-in-Height
 returns-in-Height c =
     let values = ap (λ v. v ∷ []) c.from.ensures ∙ sym (ap (λ r. (numbered r).1) c.in-Height.is) in
-    IfOk-weaker c.one-value.result _ _ (λ s e. e ∙ line_of_one c.args.refusal c.number-number.result c.from.result c.number-number.ensures values) c.one-value.ensures
+    IfOk-weaker c.one_value.result _ _ (λ s e. e ∙ line_of_one c.args.refusal c.number-number.result c.from.result c.number-number.ensures values) c.one_value.ensures

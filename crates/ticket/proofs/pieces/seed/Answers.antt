@@ -11,8 +11,8 @@ at_place text at i place is = get_or-drop at text i 0 ∙ ap (λ k. get_or text 
 pub loop-i-init : goal.loop-i-init
 loop-i-init c = (omega arith, c.requires.at, refl, refl, λ j. lit< tt)
 
-pub returns-in-default : goal.returns-in-default
-returns-in-default c =
+pub returns-in_default : goal.returns-in_default
+returns-in_default c =
     let text : List ℕ = c.args.text.now in
     let i : ℕ = c.loop-i.i in
     let inv = c.loop-i.invariant in
@@ -23,13 +23,13 @@ returns-in-default c =
         2 * i,
         place,
         seed_no_high (drop c.args.at text) (take i c.loop-i.scratch) i many c.loop-i-test.true inv.4 inv.2 (omega (arith, inv.1))
-            (λ v small lt e. c.in-default.ensures v small (omega arith) (sym (at_place text c.args.at (2 * i) c.loop-i.place place) ∙ e)),
+            (λ v small lt e. c.in_default.ensures v small (omega arith) (sym (at_place text c.args.at (2 * i) c.loop-i.place place) ∙ e)),
       ),
       inv.3,
     )
 
-pub returns-in-default-hex-at : goal.returns-in-default-hex-at
-returns-in-default-hex-at c =
+pub returns-in_default-hex_at : goal.returns-in_default-hex_at
+returns-in_default-hex_at c =
     let text : List ℕ = c.args.text.now in
     let i : ℕ = c.loop-i.i in
     let inv = c.loop-i.invariant in
@@ -44,7 +44,7 @@ returns-in-default-hex-at c =
         next,
         seed_no_low (drop c.args.at text) (take i c.loop-i.scratch) i many c.loop-i-test.true inv.4 inv.2 c.in-Some.high digit.2 (omega arith)
             (at_place text c.args.at (2 * i) c.loop-i.place place ∙ digit.1)
-            (λ v small lt e. c.in-default-hex-at.ensures v small (omega arith) (sym (at_place text c.args.at (2 * i + 1) (c.loop-i.place + 1) next) ∙ e)),
+            (λ v small lt e. c.in_default-hex_at.ensures v small (omega arith) (sym (at_place text c.args.at (2 * i + 1) (c.loop-i.place + 1) next) ∙ e)),
       ),
       inv.3,
     )
@@ -59,12 +59,12 @@ loop-i-preserved c =
     let room : i < length c.loop-i.scratch = omega arith in
     let many = length-take-le i c.loop-i.scratch (omega arith) in
     let high = c.in-Some.ensures in
-    let low = c.in-Some-hex-at.ensures in
+    let low = c.in-Some-hex_at.ensures in
     let inside = low.0 in
     let next : c.loop-i.place + 1 ≡ c.args.at + (2 * i + 1) = omega arith in
-    let x : ℕ = 16 * c.in-Some.high + c.in-Some-hex-at.low in
+    let x : ℕ = 16 * c.in-Some.high + c.in-Some-hex_at.low in
     let grown = take_more_set c.loop-i.scratch i x room in
-    let more = seed_more (drop c.args.at text) (take i c.loop-i.scratch) i many c.loop-i-test.true inv.4 inv.2 c.in-Some.high c.in-Some-hex-at.low high.2 low.2 (omega arith)
+    let more = seed_more (drop c.args.at text) (take i c.loop-i.scratch) i many c.loop-i-test.true inv.4 inv.2 c.in-Some.high c.in-Some-hex_at.low high.2 low.2 (omega arith)
     (at_place text c.args.at (2 * i) c.loop-i.place place ∙ high.1)
     (at_place text c.args.at (2 * i + 1) (c.loop-i.place + 1) next ∙ low.1) in
     let bytes = each_append (take i c.loop-i.scratch) (x ∷ []) inv.4 (each_next x [] (omega (arith, high.2, low.2)) (λ j. lit< tt)) in (

@@ -10,7 +10,7 @@ taken before bytes later (Err s) e long = absurd (let short = e.0 in omega arith
 
 pub returns : goal.returns
 returns c =
-    let read = c.in-ok-job.ensures in
+    let read = c.in_ok-job.ensures in
     let found = read.0 in
     let seed = taken c.args.source.now.seed c.fields.new.scratch c.reseed.new.self.seed c.reseed.result c.reseed.ensures (omega arith) in
     record { scratch = read.1; answer = (found.0, found.1, found.2, found.3, found.4, found.5, seed ∙ found.6) }

@@ -4,8 +4,8 @@ use Rattle.growth.proofs.Ends.{twice_pow}
 use Rattle.traversal.proofs.Plotting.{twice}
 use Rattle.traversal.proofs.plot.row_offset.Goals as goal
 
-pub overflow-sub-result-2 : goal.overflow-sub-result-2
-overflow-sub-result-2 c =
+pub overflow_sub-result-2 : goal.overflow_sub-result-2
+overflow_sub-result-2 c =
     let h = c.args.subtree in
     let r = c.args.row in
     let less : h - r ≤ h = omega arith in

@@ -7,4 +7,4 @@ returns-then-height-gt-TOP c = sym (too_high c.args.first c.args.height (omega a
 
 pub returns-then-first-count-eq0 : goal.returns-then-first-count-eq0
 returns-then-first-count-eq0 c =
-    whole_test c.args.first c.args.height c.leaves-below-count.result c.leaves-below-count.ensures.value c.leaves-below-count.ensures.bound.0 c.if-first-count-eq0.true
+    whole_test c.args.first c.args.height c.leaves_below-count.result c.leaves_below-count.ensures.value c.leaves_below-count.ensures.bound.0 c.if-first-count-eq0.true

@@ -3,8 +3,8 @@ use Rattle.std.proofs.lemmas.Bool.{and_parts, leb-true}
 use Rattle.tree.proofs.Rows.{some_level, subtree_facts, shifted_cells, sized_more, sized_one}
 use Rattle.tree.proofs.geometry.cells.Goals as goal
 
-pub overflow-sub-subtrees : goal.overflow-sub-subtrees
-overflow-sub-subtrees c =
+pub overflow_sub-subtrees : goal.overflow_sub-subtrees
+overflow_sub-subtrees c =
     let tall = leb-true 1 c.args.height (and_parts _ _ c.requires.height).0 in
     let some = some_level c.args.height c.args.subtree tall c.requires.subtree in
     omega arith

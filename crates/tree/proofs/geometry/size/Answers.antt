@@ -5,5 +5,5 @@ use Rattle.tree.proofs.geometry.size.Goals as goal
 
 pub returns : goal.returns
 returns c =
-    let tall = leb-true 1 c.args.height (and_parts _ _ (sym c.if-not-is-height.ensures)).0 in
-    (search rules, c.cells.ensures, in_a_row c.args.height c.args.subtree (some_level c.args.height c.args.subtree tall (sym c.if-not-is-subtree.ensures)))
+    let tall = leb-true 1 c.args.height (and_parts _ _ (sym c.if-not-is_height.ensures)).0 in
+    (search rules, c.cells.ensures, in_a_row c.args.height c.args.subtree (some_level c.args.height c.args.subtree tall (sym c.if-not-is_subtree.ensures)))

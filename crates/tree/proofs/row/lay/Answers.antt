@@ -13,5 +13,5 @@ laid left right first second post k one two short =
 
 pub returns : goal.returns
 returns c =
-    laid c.args.left.now c.args.right.now c.copy-from-slice.new.self c.copy-from-slice-2.new.self _ _ c.copy-from-slice.ensures.after c.copy-from-slice-2.ensures.after
+    laid c.args.left.now c.args.right.now c.copy_from_slice.new.self c.copy_from_slice-2.new.self _ _ c.copy_from_slice.ensures.after c.copy_from_slice-2.ensures.after
     (simp length-drop (omega arith))

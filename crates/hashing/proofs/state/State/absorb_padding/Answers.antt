@@ -12,7 +12,7 @@ loop-i-preserved c =
     let t = 16 * c.loop-i.i in
     let next : 16 * (c.loop-i.i + 1) ≡ t + 16 = omega arith in
     rw next
-    (turns (padding 64) c.args.self t c.padding-words-w.result c.loop-i.invariant c.padding-words-w.ensures
+    (turns (padding 64) c.args.self t c.padding_words-w.result c.loop-i.invariant c.padding_words-w.ensures
     c.round-s.ensures c.round-s-in-loop-i.ensures
     c.round-s-in-loop-i-2.ensures c.round-s-in-loop-i-3.ensures c.round-s-in-loop-i-4.ensures
     c.round-s-in-loop-i-5.ensures c.round-s-in-loop-i-6.ensures c.round-s-in-loop-i-7.ensures

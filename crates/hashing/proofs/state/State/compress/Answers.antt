@@ -10,7 +10,7 @@ loop-i-init c =
     let M = c.args.block.now in
     record {
       variables = refl;
-      words = λ j l. c.words-of-w.ensures j l ∙ sym (W_first M j l) ∙ ap (W M) (sym (zero-add j));
+      words = λ j l. c.words_of-w.ensures j l ∙ sym (W_first M j l) ∙ ap (W M) (sym (zero-add j));
     }
 
 pub returns : goal.returns
@@ -20,4 +20,4 @@ returns c =
     let H = c.args.self in
     let done : 16 * c.loop-i.i ≡ 48 = omega arith in
     let stage : Stage M H 48 c.loop-i.s c.loop-i.w = rw done at c.loop-i.invariant in
-    c.plus.ensures ∙ ap (λ s. plus s H) (c.rounds-closing.ensures M H stage)
+    c.plus.ensures ∙ ap (λ s. plus s H) (c.rounds_closing.ensures M H stage)

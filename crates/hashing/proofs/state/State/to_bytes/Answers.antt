@@ -14,8 +14,8 @@ unfolding words bytes4
 loop-i-preserved c =
     let i = c.loop-i.i in
     let ws = words c.args.self in
-    let part = c.copy-from-slice.new.self in
-    let is : part ≡ bytes4 (get_or ws i 0) = c.copy-from-slice.ensures.after ∙ c.to-be-bytes.ensures in
+    let part = c.copy_from_slice.new.self in
+    let is : part ≡ bytes4 (get_or ws i 0) = c.copy_from_slice.ensures.after ∙ c.to_be_bytes.ensures in
     let four : length part ≡ 4 = ap length is ∙ length_bytes4 (get_or ws i 0) in (
       length_put_mid (4 * i) (4 * i + 4 - 4 * i) c.loop-i.bytes part (omega arith) (omega arith) ∙ c.loop-i.invariant.0,
       written bytes4 4 ws c.loop-i.bytes part i (4 * i + 4 - 4 * i) c.loop-i-test.true (omega arith) four c.loop-i.invariant.1 is,

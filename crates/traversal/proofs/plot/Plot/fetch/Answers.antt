@@ -6,8 +6,8 @@ use Rattle.traversal.proofs.Plotting.{sound}
 use Rattle.traversal.proofs.Sections.{length_part, read_part, same_part, no_more, one_more}
 use Rattle.traversal.proofs.plot.Plot.fetch.Goals as goal
 
-pub top-of-requires : goal.top-of-requires
-top-of-requires g c =
+pub top_of-requires : goal.top_of-requires
+top_of-requires g c =
     let plot = c.args.self in
     let none = c.in-Stack.ensures in
     let len = length c.args.table.now in
@@ -35,9 +35,9 @@ returns-in-Subtree g c =
     let plot = c.args.self in
     let x = c.get.result in
     let at = place_own (layout plot) c.args.height c.args.index own ∙ cell in
-    let size = c.section-cells.ensures in
+    let size = c.section_cells.ensures in
     let start = c.in-Subtree.start in
-    let k = start + c.section-cells.result - start in
+    let k = start + c.section_cells.result - start in
     let less : c.in-Subtree.offset < k = omega arith in
     record {
       value = c.get.ensures ∙ read_part c.args.table.now start k c.in-Subtree.offset x less ∙ ap (λ j. get_or c.args.table.now j x) (sym at);
@@ -49,7 +49,7 @@ pub returns-in-Stack : goal.returns-in-Stack
 returns-in-Stack g c =
     let plot = c.args.self in
     let none = c.in-Stack.ensures in
-    let x = c.top-of.result in
+    let x = c.top_of.result in
     let len = length c.args.table.now in
     let below = stacked_below (layout plot) (plot.top - c.args.height) c.args.height c.args.index in
     let inside = place_inside (layout plot) (depth plot) (sound plot c.requires.legal) c.args.height c.args.index len c.requires.node.0 c.requires.node.1 c.requires.room.0 c.requires.room.1 in
@@ -57,7 +57,7 @@ returns-in-Stack g c =
     let all = one_more below (owns_cell plot c.args.height c.args.index) none in
     let cell : plot.tail + (c.args.stacked - 1) ≡ place (layout plot) c.args.height c.args.index = omega arith in
     record {
-      value = c.top-of.ensures.value ∙ read_part c.args.table.now plot.tail (len - plot.tail) (c.args.stacked - 1) x (omega (arith, c.requires.room.0)) ∙ ap (λ j. get_or c.args.table.now j x) cell;
+      value = c.top_of.ensures.value ∙ read_part c.args.table.now plot.tail (len - plot.tail) (c.args.stacked - 1) x (omega (arith, c.requires.room.0)) ∙ ap (λ j. get_or c.args.table.now j x) cell;
       stacked = omega arith;
-      table = same_part c.args.table.now plot.tail (len - plot.tail) c.top-of.new.cells c.top-of.ensures.cells;
+      table = same_part c.args.table.now plot.tail (len - plot.tail) c.top_of.new.cells c.top_of.ensures.cells;
     }

@@ -31,10 +31,10 @@ returns-then-height-self-2 c =
       | then-height-self-2-via-else-height-self-2+then-index-self w ↦ omega (arith, q.1.1, one_shl (h - r) 32 (omega (arith, c.requires.legal.greatest)), w.if-index-self.true)
     ])
 
-pub overflow-add-result : goal.overflow-add-result
-overflow-add-result c =
+pub overflow_add-result : goal.overflow_add-result
+overflow_add-result c =
     let less : c.args.height < c.args.self.top = omega (arith, c.requires.node.0) in
-    let row = ap (λ n. c.args.height / c.args.self.subtree * n) c.section-cells.ensures in
+    let row = ap (λ n. c.args.height / c.args.self.subtree * n) c.section_cells.ensures in
     omega (arith, section_inside c.args.self c.requires.legal c.args.height less, row)
 
 pub returns : goal.returns
@@ -46,9 +46,9 @@ returns c =
     let less : t < c.args.self.top = omega (arith, c.requires.node.0) in
     let few = low_row c.args.self c.requires.legal t in
     let near : x < 2 ^ (h - r) = omega (arith, one_shl (h - r) 32 (omega (arith, c.requires.legal.greatest))) in
-    let row : t / h * c.section-cells.result ≡ t / h * subtree_cells h = ap (λ n. t / h * n) c.section-cells.ensures in (
+    let row : t / h * c.section_cells.result ≡ t / h * subtree_cells h = ap (λ n. t / h * n) c.section_cells.ensures in (
       (owns_decides c.args.self c.requires.legal t x).1 (inr (c.if-height-self-2.false, (less, near))),
-      omega (arith, cell_row c.args.self c.requires.legal t x less, c.row-offset.ensures),
-      omega (arith, row_inside h r x few near, c.row-offset.ensures),
+      omega (arith, cell_row c.args.self c.requires.legal t x less, c.row_offset.ensures),
+      omega (arith, row_inside h r x few near, c.row_offset.ensures),
       omega (arith, section_inside c.args.self c.requires.legal t less),
     )

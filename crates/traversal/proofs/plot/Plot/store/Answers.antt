@@ -7,8 +7,8 @@ use Rattle.traversal.proofs.Plotting.{sound}
 use Rattle.traversal.proofs.Sections.{length_part, write_part, no_more, one_more}
 use Rattle.traversal.proofs.plot.Plot.store.Goals as goal
 
-pub push-on-requires : goal.push-on-requires
-push-on-requires g c =
+pub push_on-requires : goal.push_on-requires
+push_on-requires g c =
     let plot = c.args.self in
     let len = length c.args.table.now in
     let inside = place_inside (layout plot) (depth plot) (sound plot c.requires.legal) c.args.height c.args.index len c.requires.node.0 c.requires.node.1 c.requires.room.0 c.requires.room.1 in
@@ -28,9 +28,9 @@ pub returns-in-Subtree : goal.returns-in-Subtree
 returns-in-Subtree g c =
     let (own, cell, inside, before) = c.in-Subtree.ensures in
     let at = place_own (layout c.args.self) c.args.height c.args.index own ∙ cell in
-    let size = c.section-cells.ensures in
+    let size = c.section_cells.ensures in
     let start = c.in-Subtree.start in
-    let k = start + c.section-cells.result - start in
+    let k = start + c.section_cells.result - start in
     let less : c.in-Subtree.offset < k = omega arith in
     let fits : start + k ≤ length c.args.table.now = omega (arith, c.requires.room.0) in
     record {
@@ -47,6 +47,6 @@ returns-in-Stack g c =
     let at = place_tail (layout plot) c.args.height c.args.index none in
     let cell : plot.tail + c.args.stacked ≡ place (layout plot) c.args.height c.args.index = omega arith in
     record {
-      table = write_part c.args.table.now plot.tail (len - plot.tail) c.args.stacked c.args.node c.push-on.new.cells (omega (arith, c.requires.room.0)) (omega arith) c.push-on.ensures.cells ∙ ap (λ j. set c.args.table.now j c.args.node) cell;
-      stacked = c.push-on.ensures.len ∙ one_more c.args.stacked (owns_cell plot c.args.height c.args.index) none;
+      table = write_part c.args.table.now plot.tail (len - plot.tail) c.args.stacked c.args.node c.push_on.new.cells (omega (arith, c.requires.room.0)) (omega arith) c.push_on.ensures.cells ∙ ap (λ j. set c.args.table.now j c.args.node) cell;
+      stacked = c.push_on.ensures.len ∙ one_more c.args.stacked (owns_cell plot c.args.height c.args.index) none;
     }

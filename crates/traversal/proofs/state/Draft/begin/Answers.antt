@@ -5,9 +5,9 @@ use Rattle.growth.specs.Places.{stack_size}
 use Rattle.traversal.proofs.Beginning.{legal_shape}
 use Rattle.traversal.proofs.state.Draft.begin.Goals as goal
 
-pub invariant-of-result : goal.invariant-of-result
+pub invariant_of-result : goal.invariant_of-result
 unfolding joined stack_size ones
-invariant-of-result g c =
-    let (passed, cells, row) = c.in-ok-cells.ensures in
+invariant_of-result g c =
+    let (passed, cells, row) = c.in_ok-cells.ensures in
     let (height, subtree) = legal_shape c.args.height c.args.subtree passed in
     ((height, subtree, cells), (((omega arith, omega arith, omega arith, refl), refl, refl), tt))

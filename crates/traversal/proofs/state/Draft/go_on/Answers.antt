@@ -16,13 +16,13 @@ returns-then-missing-eq0 g c =
     let u = world {N = g.row.M-Node.Denot} c.loop-leaves.table (g.M.Maker.meaning c.loop-leaves.maker) (g.M.Maker.meter c.loop-leaves.maker) (g.S.Source.supply c.loop-leaves.source) in
     complete c.args.self.now c.loop-leaves.self v u c.args.budget c.loop-leaves.leaves c.loop-leaves.joins c.loop-leaves.invariant.0 c.loop-leaves.invariant.1 (sym c.missing.ensures ∙ c.if-missing-eq0.true)
 
-pub returns-in-default : goal.returns-in-default
-returns-in-default g c =
-    let (lacks, same, still) = c.in-default.ensures in
+pub returns-in_default : goal.returns-in_default
+returns-in_default g c =
+    let (lacks, same, still) = c.in_default.ensures in
     let v = world {N = g.row.M-Node.Denot} c.args.table.now (g.M.Maker.meaning c.args.maker.now) (g.M.Maker.meter c.args.maker.now) (g.S.Source.supply c.args.source.now) in
     let u = world {N = g.row.M-Node.Denot} c.loop-leaves.table (g.M.Maker.meaning c.loop-leaves.maker) (g.M.Maker.meter c.loop-leaves.maker) (g.S.Source.supply c.loop-leaves.source) in
     let w = world {N = g.row.M-Node.Denot} c.unit.new.table (g.M.Maker.meaning c.unit.new.maker) (g.M.Maker.meter c.unit.new.maker) (g.S.Source.supply c.unit.new.source) in
-    let fault = c.in-default.field-0.unit.missing in
+    let fault = c.in_default.field-0.unit.missing in
     starved c.args.self.now c.loop-leaves.self c.unit.new.self v u w c.args.budget c.loop-leaves.leaves c.loop-leaves.joins (Token (draft_lack fault)) c.loop-leaves.invariant.0 c.loop-leaves.invariant.1 lacks same still
 
 pub loop-leaves-preserved : goal.loop-leaves-preserved

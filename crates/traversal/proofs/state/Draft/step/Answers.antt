@@ -21,13 +21,13 @@ returns-then-budget-eq0 g c =
           (nothing_due d (length c.args.table.now) c.args.budget (g.S.Source.supply c.args.source.now) enough (inr full), complete d d v v c.args.budget 0 0 none (omega arith) full)
     ]
 
-pub returns-in-err-first : goal.returns-in-err-first
-returns-in-err-first g c =
+pub returns-in_err-first : goal.returns-in_err-first
+returns-in_err-first g c =
     let d = c.args.self.now in
-    let p = err_from_is_err_and c.from-residual.result c.from-residual.ensures.1 in
+    let p = err_from_is_err_and c.from_residual.result c.from_residual.ensures.1 in
     let enough : table_size d.height d.subtree ≤ length c.args.table.now = omega (arith, d.shaped.2) in
     let few : units d < units_in_all d = omega (arith, c.missing.ensures) in
-    let (lacks, same, still) = c.in-err-first.ensures in
+    let (lacks, same, still) = c.in_err-first.ensures in
     rw (p.1, p.2) (first_unit d (length c.args.table.now) c.args.budget (g.S.Source.supply c.args.source.now) enough (omega arith) few ∙ lacks, same, still)
 
 pub returns : goal.returns
@@ -35,13 +35,13 @@ returns g c =
     let d = c.args.self.now in
     let enough : table_size d.height d.subtree ≤ length c.args.table.now = omega (arith, d.shaped.2) in
     let few : units d < units_in_all d = omega (arith, c.missing.ensures) in
-    let (fine, drafted) = c.in-ok-first.ensures in
+    let (fine, drafted) = c.in_ok-first.ensures in
     let v = world c.args.table.now (g.M.Maker.meaning c.args.maker.now) (g.M.Maker.meter c.args.maker.now) (g.S.Source.supply c.args.source.now) in
-    let w = world c.go-on-leaves.new.table (g.M.Maker.meaning c.go-on-leaves.new.maker) (g.M.Maker.meter c.go-on-leaves.new.maker) (g.S.Source.supply c.go-on-leaves.new.source) in
+    let w = world c.go_on-leaves.new.table (g.M.Maker.meaning c.go_on-leaves.new.maker) (g.M.Maker.meter c.go_on-leaves.new.maker) (g.S.Source.supply c.go_on-leaves.new.source) in
     let u = world {N = g.row.M-Node.Denot} c.unit.new.table (g.M.Maker.meaning c.unit.new.maker) (g.M.Maker.meter c.unit.new.maker) (g.S.Source.supply c.unit.new.source) in
-    let rest = c.go-on-leaves.result in
-    let made = pair_of c.in-ok-first.first in (
+    let rest = c.go_on-leaves.result in
+    let made = pair_of c.in_ok-first.first in (
       first_unit d (length c.args.table.now) c.args.budget (g.S.Source.supply c.args.source.now) enough (omega arith) few ∙ fine,
-      subst (λ (p : ℕ × ℕ). WentOn d v c.args.budget (p.0 + rest.0) (p.1 + rest.1) c.go-on-leaves.new.self w) (sym c.pair-leaf.ensures)
-          (went_on d c.unit.new.self c.go-on-leaves.new.self v u w c.args.budget made.0 made.1 rest.0 rest.1 (omega arith) (one_made c.in-ok-first.first) drafted c.go-on-leaves.ensures),
+      subst (λ (p : ℕ × ℕ). WentOn d v c.args.budget (p.0 + rest.0) (p.1 + rest.1) c.go_on-leaves.new.self w) (sym c.pair-leaf.ensures)
+          (went_on d c.unit.new.self c.go_on-leaves.new.self v u w c.args.budget made.0 made.1 rest.0 rest.1 (omega arith) (one_made c.in_ok-first.first) drafted c.go_on-leaves.ensures),
     )

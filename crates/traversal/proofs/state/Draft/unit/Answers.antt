@@ -27,5 +27,5 @@ returns g c =
     let N = g.row.M-Node.Denot in
     let v = world {N = N} c.args.table.now (g.M.Maker.meaning c.args.maker.now) (g.M.Maker.meter c.args.maker.now) (g.S.Source.supply c.args.source.now) in
     let w = world {N = N} c.unit.new.table (g.M.Maker.meaning c.unit.new.maker) (g.M.Maker.meter c.unit.new.maker) (g.S.Source.supply c.unit.new.source) in
-    unit_taken d _ v w refl refl c.in-ok-made.made
-    (subst (λ p. UnitMade p v d.hash (Ok c.in-ok-made.made) w c.unit.new.self) c.plot.ensures c.in-ok-made.ensures.made)
+    unit_taken d _ v w refl refl c.in_ok-made.made
+    (subst (λ p. UnitMade p v d.hash (Ok c.in_ok-made.made) w c.unit.new.self) c.plot.ensures c.in_ok-made.ensures.made)

@@ -10,8 +10,8 @@ use Rattle.traversal.proofs.Plotting.{sound}
 use Rattle.traversal.proofs.Advancing.{join_index, stacked_join, below_left, below_parent, right_inside, parent_inside, standing_join, advanced_join}
 use Rattle.traversal.proofs.treehash.Treehash.join.Goals as goal
 
-pub overflow-sub-index : goal.overflow-sub-index
-overflow-sub-index g c = omega (arith, (join_index c.args.plot c.args.self.now c.requires.standing c.requires.due).0)
+pub overflow_sub-index : goal.overflow_sub-index
+overflow_sub-index g c = omega (arith, (join_index c.args.plot c.args.self.now c.requires.standing c.requires.due).0)
 
 pub fetch-right-requires : goal.fetch-right-requires
 fetch-right-requires g c =
@@ -24,8 +24,8 @@ fetch-right-requires g c =
       stacked = stacked_join c.args.plot old c.requires.standing c.requires.due;
     }
 
-pub overflow-sub-index-2 : goal.overflow-sub-index-2
-overflow-sub-index-2 g c = omega (arith, (join_index c.args.plot c.args.self.now c.requires.standing c.requires.due).1)
+pub overflow_sub-index-2 : goal.overflow_sub-index-2
+overflow_sub-index-2 g c = omega (arith, (join_index c.args.plot c.args.self.now c.requires.standing c.requires.due).1)
 
 pub fetch-left-requires : goal.fetch-left-requires
 fetch-left-requires g c =
@@ -52,8 +52,8 @@ store-self-requires g c =
       stacked = c.fetch-left.ensures.stacked ∙ below_parent c.args.plot old.newest (newest old.leaves old.newest) odd high;
     }
 
-pub overflow-add-self-2 : goal.overflow-add-self-2
-overflow-add-self-2 g c =
+pub overflow_add-self-2 : goal.overflow_add-self-2
+overflow_add-self-2 g c =
     let old = c.args.self.now in
     let high = c.requires.legal.high in
     omega (arith, c.requires.standing.1, joined_less old.leaves old.newest, c.requires.standing.0.0, pow_mono high)

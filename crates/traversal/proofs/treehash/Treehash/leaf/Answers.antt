@@ -14,7 +14,7 @@ store-self-requires g c = record {
 pub returns : goal.returns
 returns g c =
     let old = c.args.self.now in
-    let gives = c.in-ok-token.ensures.gives in
+    let gives = c.in_ok-token.ensures.gives in
     let leaf = c.leaf-node.ensures in
     let new : Treehash = record { leaves = old.leaves + 1; joins = old.joins; newest = 0; stacked = c.store-self.result } in
     record {

@@ -2,4 +2,4 @@ use Rattle.tree.specs.Sealing.{sealed_one_spelling}
 use Rattle.tree.proofs.sealed.Sealed.new.Goals as goal
 
 pub returns : goal.returns
-returns c = record { starts = c.new.ensures; one-spelling = sealed_one_spelling }
+returns c = record { starts = c.new.ensures; one_spelling = sealed_one_spelling }
