@@ -7,7 +7,7 @@ import re
 KIT = """copy_from_slice to_be_bytes from_be_bytes wrapping_add wrapping_mul rotate_right split_at split_at_mut is_empty
 split_first trailing_zeros checked_add count_ones in_err in_ok in_default invariant_of overflow_add overflow_sub
 overflow_mul overflow_shl overflow_shr overflow_cast overflow_step slice_bounds offset_bounds nonzero_div nonzero_rem
-as_ref as_mut map_err is_some is_none is_ok is_err unwrap_or unwrap_or_default in_empty from_residual""".split()
+as_ref as_mut map_err is_some is_none is_ok is_err unwrap_or unwrap_or_default from_residual type_inv""".split()
 
 
 def main():

@@ -12,8 +12,8 @@ rest_first bs rest e = ap (λ l. get_or l 0 0) e ∙ get_or-drop 40 bs 0 0
 rest_nodes : (bs rest : List ℕ) → rest ≡ drop 40 bs → take (length rest - 1) (drop 1 rest) ≡ drop 41 bs
 rest_nodes bs rest e = take_rest rest 1 ∙ ap (drop 1) e ∙ drop-drop 1 40 bs
 
-pub returns-in_empty : goal.returns-in_empty
-returns-in_empty c =
+pub returns-in-empty : goal.returns-in-empty
+returns-in-empty c =
     let size = rest_length c.args.bytes.now c.args.rest.now c.requires.here in
     search rules
 

@@ -40,5 +40,5 @@ returns g c =
         filled,
       );
       spells_back = λ one.
-          (λ i. strip_bytes m (p.1 i) (p.2 i) (p.3 i) (front i)) ∙ strip_spelled m one bs (λ i. (c.type-inv.bytes i).fits) whole;
+          (λ i. strip_bytes m (p.1 i) (p.2 i) (p.3 i) (front i)) ∙ strip_spelled m one bs (λ i. (c.type_inv.bytes i).fits) whole;
     }

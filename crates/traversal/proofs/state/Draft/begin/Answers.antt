@@ -10,4 +10,4 @@ unfolding joined stack_size ones
 invariant_of-result g c =
     let (passed, cells, row) = c.in_ok-cells.ensures in
     let (height, subtree) = legal_shape c.args.height c.args.subtree passed in
-    ((height, subtree, cells), (((omega arith, omega arith, omega arith, refl), refl, refl), tt))
+    record { shaped = (height, subtree, cells); standing = ((omega arith, omega arith, omega arith, refl), refl, refl) }
