@@ -24,8 +24,7 @@ const NO: u32 = 100;
 const ROOT_LENGTH: u32 = 7;
 
 // How many cells the table of a traversal has; 0 for heights that no tree or no subtree has.
-#[unsafe(no_mangle)]
-pub extern "C" fn strips_table_size(height: u32, subtree: u32) -> u64
+pub fn strips_table_size(height: u32, subtree: u32) -> u64
     ensures { result ≡ size_or_0 height subtree }
 {
     match size(height, subtree) {
@@ -35,8 +34,7 @@ pub extern "C" fn strips_table_size(height: u32, subtree: u32) -> u64
 }
 
 // How many bytes a strip has; 0 for a kind or a height that no strip has.
-#[unsafe(no_mangle)]
-pub extern "C" fn strips_strip_length(kind: u32, height: u32) -> u64
+pub fn strips_strip_length(kind: u32, height: u32) -> u64
     ensures { result ≡ length_or_0 kind height }
 {
     if !is_height(height) {
@@ -52,8 +50,7 @@ pub extern "C" fn strips_strip_length(kind: u32, height: u32) -> u64
 
 // Whether a sealed strip leads to a root of 32 bytes: 0 for yes and 100 for no, or the number of the
 // refusal.
-#[unsafe(no_mangle)]
-pub extern "C" fn strips_check(strip: &[u8], root: &[u8]) -> u32
+pub fn strips_check(strip: &[u8], root: &[u8]) -> u32
     ensures answer { ChecksSealed strip.now root.now result }
     ensures full_tree { AcceptsSealed strip.now root.now result }
 {

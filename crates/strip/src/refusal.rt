@@ -3,7 +3,7 @@ ghost use Rattle.strip.specs.Refusals.{section_number, numbered};
 ghost use Rattle.strip.specs.declared.refusal.Refusal.TheVariants.{NoStrip};
 
 // The sections of a strip.
-#[derive(Clone, Copy)]
+#[derive(Clone, Copy, Debug, PartialEq)]
 pub enum Section {
     Head,
     Token,
@@ -11,14 +11,14 @@ pub enum Section {
 }
 
 // Where bytes stop being a strip: the place of the first wrong byte, or of the first missing one.
-#[derive(Clone, Copy)]
+#[derive(Clone, Copy, Debug, PartialEq)]
 pub struct Fault {
     pub place: usize,
     pub section: Section,
 }
 
 // Why a call does nothing.
-#[derive(Clone, Copy)]
+#[derive(Clone, Copy, Debug, PartialEq)]
 pub enum Refusal {
     // No tree has this height.
     Height(u32),

@@ -2,14 +2,14 @@ ghost use Rattle.std.specs.Prelude.{◌≡◌};
 ghost use Rattle.ticket.specs.Reading.{numbered};
 
 // The makers that a ticket can ask for.
-#[derive(Clone, Copy)]
+#[derive(Clone, Copy, Debug, PartialEq)]
 pub enum Kind {
     Sealed,
     Dummy,
 }
 
 // What a ticket asks for, but for its seed. The heights are not judged yet.
-#[derive(Clone, Copy)]
+#[derive(Clone, Copy, Debug, PartialEq)]
 pub struct Job {
     pub kind: Kind,
     pub height: u32,
@@ -17,14 +17,14 @@ pub struct Job {
 }
 
 // A place in a text: the line counts from 1, the column from 0.
-#[derive(Clone, Copy)]
+#[derive(Clone, Copy, Debug, PartialEq)]
 pub struct Spot {
     pub line: usize,
     pub column: usize,
 }
 
 // Why a ticket is not read.
-#[derive(Clone, Copy)]
+#[derive(Clone, Copy, Debug, PartialEq)]
 pub enum Refusal {
     // The scratch is too short; it should have had so many bytes.
     Short(usize),

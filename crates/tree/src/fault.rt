@@ -2,7 +2,7 @@ ghost use Rattle.std.specs.Prelude.{◌≡◌};
 ghost use Rattle.tree.specs.Refusals.{short_numbered};
 
 // A slice is too short for what should go into it or come out of it.
-#[derive(Clone, Copy)]
+#[derive(Clone, Copy, Debug, PartialEq)]
 pub struct TooShort {
     pub needed: usize,
 }
@@ -17,21 +17,21 @@ impl TooShort {
 }
 
 // Why a source gives no token: it was spoiled, or the number is past the source's end.
-#[derive(Clone, Copy)]
+#[derive(Clone, Copy, Debug, PartialEq)]
 pub enum Cause {
     Torn,
     Beyond,
 }
 
 // Whether a source has the token of a number.
-#[derive(Clone, Copy)]
+#[derive(Clone, Copy, Debug, PartialEq)]
 pub enum Presence {
     Present,
     Absent(Cause),
 }
 
 // A source has no token of this number.
-#[derive(Clone, Copy)]
+#[derive(Clone, Copy, Debug, PartialEq)]
 pub struct Missing {
     pub number: u32,
     pub cause: Cause,
