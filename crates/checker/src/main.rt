@@ -3,16 +3,19 @@
 // Checks a printed proof strip against a root: reads the root and the strip in hex, a line each, and
 // prints the verdict.
 use anyhow::anyhow;
+use std::io;
+use std::process::ExitCode;
 use strip::judge::judge;
 use text::answer::answer;
 use text::hex::decode;
 
-fn main(rt: HostRuntime) -> anyhow::Result<()> {
+// The message is printed here, under the program's name, and not by returning the error.
+fn main(rt: HostRuntime) -> io::Result<ExitCode> {
     if let Err(error) = run(&rt) {
         eprintln!(rt; "checker: {error}")?;
-        return Err(error);
+        return Ok(ExitCode::FAILURE);
     }
-    Ok(())
+    Ok(ExitCode::SUCCESS)
 }
 
 fn run(rt: &HostRuntime) -> anyhow::Result<()> {
