@@ -1,7 +1,7 @@
 /*
  * Proof strips for C: the sizes of tables and strips, and the check of a sealed strip.
  *
- * Link with libstrip.a, which `rt staticlib strip` writes to target/staticlib/. Beside it only memcpy is
+ * Link with libstrip.a, which `tools/archive strip_c strip` writes to target/staticlib/. Beside it only memcpy is
  * needed, which every C library has. docs/FORMATS.md has the strip byte by byte.
  *
  * Every call ends with an answer, whatever numbers and bytes it is given. Nothing is allocated and no state is

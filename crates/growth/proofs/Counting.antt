@@ -1,5 +1,5 @@
 -- How many joins led to a progress.
-use Rattle.std.proofs.Common.{◌≡◌, ℕ, zero, suc, ◌+◌, ◌-◌, ◌*◌, ◌/◌, ◌%◌, ◌^◌, ◌<◌, ◌≤◌, true, false, ◌⊎◌, sym, refl, ap, ◌∙◌, inl, inr, ⊎_elim, add-zero, mod-lt, add-mul, mul-le-mul_left, div-one, arith, pow_pos}
+use Rattle.std.proofs.Common.{◌≡◌, ℕ, ◌+◌, ◌-◌, ◌*◌, ◌/◌, ◌%◌, ◌^◌, ◌<◌, ◌≤◌, true, false, sym, refl, ap, ◌∙◌, ⊎_elim, add-zero, mod-lt, mul-le-mul_left, div-one, arith, pow_pos}
 use native.Mathlib.Nat.{div-eq_of_lt}
 use lib.Pow.{ones_lt, split, pow-lt, shr_le}
 use lib.Arith.{bin_ind}

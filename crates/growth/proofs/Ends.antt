@@ -1,5 +1,5 @@
 -- Where a node ends, and where its parent, its children and its neighbours do.
-use Rattle.std.proofs.Common.{◌≡◌, ℕ, zero, suc, ◌+◌, ◌-◌, ◌*◌, ◌/◌, ◌%◌, ◌^◌, ◌<◌, ◌≤◌, ◌⊎◌, sym, refl, ap, ◌∙◌, subst, inl, inr, ⊎_elim, mul_assoc, mul_comm, add-mul, mul-lt-mul_of_pos_right, pow-suc, div-add-mod', add-one, arith, pow_pos, pow-add}
+use Rattle.std.proofs.Common.{◌≡◌, ℕ, ◌+◌, ◌-◌, ◌*◌, ◌/◌, ◌%◌, ◌^◌, ◌<◌, ◌≤◌, ◌⊎◌, sym, ap, ◌∙◌, inl, inr, ⊎_elim, mul_assoc, mul_comm, add-mul, mul-lt-mul_of_pos_right, pow-suc, div-add-mod', add-one, arith, pow_pos, pow-add}
 use native.Mathlib.Nat.{div-eq_of_lt-le, mul-mod_left}
 use lib.Pow.{pow-lt}
 use Rattle.std.proofs.lemmas.Nat.{mul-le}

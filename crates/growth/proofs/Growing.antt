@@ -1,12 +1,12 @@
 -- What is grown from found values, and from grown ones.
-use Rattle.std.proofs.Common.{◌≡◌, ℕ, zero, suc, ◌+◌, ◌*◌, ◌/◌, ◌<◌, ◌≤◌, Bool, true, false, cond, ◌⊎◌, sym, refl, ap, ◌∙◌, subst, inl, inr, ⊎_elim, add-one, arith}
+use Rattle.std.proofs.Common.{◌≡◌, ℕ, zero, suc, ◌+◌, ◌*◌, ◌/◌, Bool, true, false, ◌⊎◌, sym, ap, ◌∙◌, subst, inl, inr, ⊎_elim, add-one, arith}
 use Rattle.std.proofs.lemmas.Bool.{cases_Bool, cond-true, cond-false}
 use Rattle.std.proofs.lemmas.Bool.Decides.{not_from_Decides}
 use Rattle.growth.specs.Order.{made}
 use Rattle.growth.specs.Places.{Layout, carried}
 use Rattle.growth.specs.Values.{grown, Later}
 use Rattle.growth.proofs.Making.{Made, made_decides, made_later}
-use Rattle.growth.proofs.Placing.{Carried, carried_decides}
+use Rattle.growth.proofs.Placing.{carried_decides}
 
 pub not_carried : (lay : Layout) (l p t x : ℕ) → (Made l p t x → ⊥) → carried lay l p t x ≡ false
 not_carried lay l p t x never = ⊎_elim (λ e. absurd (never ((carried_decides lay l p t x).0 e).0)) (λ e. e) (cases_Bool (carried lay l p t x))

@@ -1,12 +1,12 @@
 -- Which nodes are made, and which one the next unit makes.
-use Rattle.std.proofs.Common.{◌≡◌, ℕ, zero, suc, ◌+◌, ◌-◌, ◌*◌, ◌/◌, ◌%◌, ◌^◌, ◌<◌, ◌≤◌, Bool, true, false, cond, not, ◌&&◌, ◌||◌, eqb, ltb, leb, ◌⊎◌, Decides, sym, refl, ap, ◌∙◌, subst, inl, inr, ⊎_elim, arith, pow_pos}
+use Rattle.std.proofs.Common.{◌≡◌, ℕ, zero, suc, ◌+◌, ◌-◌, ◌/◌, ◌%◌, ◌^◌, ◌<◌, ◌≤◌, true, false, ◌&&◌, eqb, ltb, leb, ◌⊎◌, Decides, sym, ap, ◌∙◌, subst, inl, inr, ⊎_elim, arith, pow_pos}
 use native.Mathlib.Nat.{mod-one, div-eq_of_lt-le}
 use lib.Pow.{pow-lt}
 use Rattle.std.proofs.lemmas.Bool.{cases_lt, cases_order, cases_Bool, leb-true, le-leb, and_parts, and_cases, ltb-true, ltb-false, eqb-true, eqb-false}
-use Rattle.std.proofs.lemmas.Bool.Decides.{Decides-or, Decides-and, Decides-ltb, Decides-eqb, Decides-not, not_from_Decides}
+use Rattle.std.proofs.lemmas.Bool.Decides.{Decides-or, Decides-and, Decides-ltb, Decides-eqb}
 use Rattle.growth.specs.Order.{ends, made, Reached, newest, join_due}
 use Rattle.growth.specs.Values.{Later}
-use Rattle.growth.proofs.Ends.{ends_up, ends_pos, ends_pow, ends_zero, ends_root, ends_next, ends_whole, ends_lt, ends_lt_back, ends_le_back, ends_inj, ends_deep, ends_odd, ends_half_odd, ends_half_even, newest_end, cases_mod}
+use Rattle.growth.proofs.Ends.{ends_pos, ends_pow, ends_zero, ends_root, ends_next, ends_whole, ends_lt, ends_lt_back, ends_le_back, ends_inj, ends_deep, ends_odd, ends_half_odd, ends_half_even, newest_end, cases_mod}
 
 abbrev pub Made : ℕ → ℕ → ℕ → ℕ → Type 0
 Made l p t x = (ends t x < l) ⊎ ((ends t x ≡ l) × (t ≤ p))

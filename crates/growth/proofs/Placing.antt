@@ -1,11 +1,11 @@
 -- The places of the nodes that a table carries are different, and the stack's size tells where the next one goes.
-use Rattle.std.proofs.Common.{◌≡◌, ℕ, zero, suc, ◌+◌, ◌-◌, ◌*◌, ◌/◌, ◌%◌, ◌^◌, ◌<◌, ◌≤◌, Bool, true, false, cond, not, ◌&&◌, ◌||◌, eqb, ◌⊎◌, Decides, sym, refl, ap, ◌∙◌, subst, inl, inr, ⊎_elim, add-zero, mul_assoc, mul_comm, zero-add, mul-one, div-one, arith, pow_pos, pow_mono, eq-eqb, ne_eqb}
+use Rattle.std.proofs.Common.{◌≡◌, ℕ, zero, suc, ◌+◌, ◌-◌, ◌*◌, ◌/◌, ◌%◌, ◌^◌, ◌<◌, ◌≤◌, Bool, true, false, cond, not, ◌&&◌, ◌||◌, eqb, ◌⊎◌, Decides, sym, refl, ap, ◌∙◌, subst, inl, inr, ⊎_elim, add-zero, mul_assoc, mul_comm, zero-add, mul-one, div-one, arith, pow_mono, eq-eqb, ne_eqb}
 use native.Mathlib.Nat.{pow-succ', div-div-eq-div-mul}
 use Rattle.std.proofs.lemmas.Bool.{cases_lt, cases_order, cond-true, cond-false, cases_Bool, both_ways}
 use Rattle.std.proofs.lemmas.Bool.Decides.{Decides-and, Decides-or, Decides-not}
 use Rattle.growth.specs.Order.{ends, made, Reached, newest, join_due}
 use Rattle.growth.specs.Places.{Layout, carried, over_sibling, stacked_below, place, stack_size, Sound}
-use Rattle.growth.proofs.Ends.{ends_pow, ends_inside, newest_is, twice_pow}
+use Rattle.growth.proofs.Ends.{ends_pow, newest_is}
 use Rattle.growth.proofs.Making.{Made, Stacked, Above, above, same_end, made_le, made_decides, due_false, newest_of, leaf_room}
 
 -- made, and stacked or with a cell of its own

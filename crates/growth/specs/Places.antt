@@ -1,6 +1,6 @@
 -- Where the nodes of a growing tree lie. Some have a cell of their own and keep it. The others are needed only
 -- until they are joined, and lie on a stack.
-use Rattle.std.specs.Prelude.{◌≡◌, ℕ, zero, suc, ◌+◌, ◌-◌, ◌*◌, ◌/◌, ◌%◌, ◌^◌, ◌<◌, ◌≤◌, Bool, true, false, cond, not, ◌&&◌, ◌||◌, ◌==◌}
+use Rattle.std.specs.Prelude.{◌≡◌, ℕ, zero, suc, ◌+◌, ◌-◌, ◌/◌, ◌%◌, ◌^◌, ◌<◌, ◌≤◌, Bool, true, cond, not, ◌&&◌, ◌||◌, ◌==◌}
 use Rattle.growth.specs.Order.{made, newest}
 
 pub record Layout : Type 0 where

@@ -1,8 +1,8 @@
 -- The law over all lists of calls: what is kept from call to call, and what it comes to.
-use Rattle.std.proofs.Common.{◌≡◌, ℕ, ◌+◌, ◌-◌, ◌*◌, ◌/◌, ◌%◌, ◌^◌, ◌<◌, ◌≤◌, min, Bool, true, false, cond, ◌&&◌, ltb, leb, ◌⊎◌, List, [], ◌∷◌, length, get_or, Some, None, Ok, Err, Decides, Option, Result, sym, refl, ap, ◌∙◌, subst, ap₂, inl, inr, ⊎_elim, add-zero, add_assoc, add-mul, zero-add, arith, pow_mono}
+use Rattle.std.proofs.Common.{◌≡◌, ℕ, ◌+◌, ◌-◌, ◌*◌, ◌/◌, ◌%◌, ◌^◌, ◌<◌, ◌≤◌, min, true, cond, ◌&&◌, ltb, leb, ◌⊎◌, List, [], ◌∷◌, length, get_or, Some, None, Ok, Err, Decides, Result, sym, refl, ap, ◌∙◌, subst, ap₂, inl, inr, ⊎_elim, add-zero, add_assoc, add-mul, zero-add, arith, pow_mono}
 use Rattle.std.proofs.lemmas.Nat.{div-mul-add, mod-mul-add, mul-le}
 use Rattle.std.proofs.lemmas.Bool.{cases_lt, cases_Bool, cond-true, cond-false, leb-true, ltb-true, le-ltb, and_parts, false≢true}
-use Rattle.growth.specs.Order.{Reached, join_due, joined}
+use Rattle.growth.specs.Order.{Reached, join_due}
 use Rattle.growth.specs.Places.{carried, place}
 use Rattle.growth.specs.Values.{Grew}
 use Rattle.growth.proofs.Making.{leaf_room}
@@ -11,12 +11,10 @@ use Rattle.growth.proofs.Counting.{joined_whole, unfinished}
 use Rattle.growth.proofs.Writing.{grew_true, grew_past, none_carried, whole_carried}
 use Rattle.tree.specs.Meaning.{Meaning, Wraps, after}
 use Rattle.tree.specs.Numbers.{legal_height}
-use Rattle.tree.specs.Supply.{Supply, presence}
-use Rattle.tree.specs.Tree.{node_at, root_of}
-use Rattle.tree.specs.Refusals.{first_refusal}
+use Rattle.tree.specs.Supply.{Supply}
+use Rattle.tree.specs.Tree.{node_at}
 use Rattle.tree.specs.Geometry.{levels, table_size, subtree_cells, existing_start, legal_subtree}
 use Rattle.tree.proofs.Metering.{after_after, after_none}
-use Rattle.tree.proofs.Rows.{subtree_facts}
 use Rattle.traversal.specs.declared.state.Draft.{Draft}
 use Rattle.traversal.specs.declared.state.Run.{Run}
 use Rattle.traversal.specs.declared.outcome.Incomplete.{Incomplete}
@@ -26,8 +24,7 @@ use Rattle.traversal.specs.declared.treehash.Treehash.{Treehash}
 use Rattle.traversal.specs.Plots.{row_start, layout, depth, owns_cell, own_cell}
 use Rattle.traversal.specs.Shapes.{Shaped, draft_plot}
 use Rattle.traversal.specs.Worlds.{World, tokens, leaf_at}
-use Rattle.traversal.specs.Units.{Advanced}
-use Rattle.traversal.specs.Calls.{units, units_in_all, begin_checks, Begun, unit_lacks, lacking, Stepped, Turned, Drafted, WentOn, step_refusal}
+use Rattle.traversal.specs.Calls.{units, units_in_all, Begun, unit_lacks, lacking, Stepped, Turned, WentOn, step_refusal}
 use Rattle.traversal.proofs.Plotting.{sound, owns_decides, cell_root, cell_row}
 use Rattle.traversal.proofs.Drafting.{draft_legal, draft_room, rows_start, whole_levels}
 use Rattle.traversal.proofs.Stepping.{most}
@@ -35,7 +32,7 @@ use Rattle.traversal.proofs.Beginning.{passed}
 use Rattle.session.specs.declared.held.Held.{Held}
 use Rattle.session.specs.declared.held.Held.TheVariants.{Drafting, Running}
 use Rattle.session.specs.declared.held.Call.{Call}
-use Rattle.session.specs.declared.held.Call.TheVariants.{Step, Turn}
+use Rattle.session.specs.declared.held.Call.TheVariants.{Step}
 use Rattle.session.specs.History.{History, stop, and_step, and_turn, turned, accepted}
 use Rattle.session.specs.Law.{reported, leaves_made, joins_made, budgets, Unrefused, TurnsAt, nodes, AllPresent, HoldsTree, HeldTree, HoldsCount, Lawful, LawfulFrom}
 

@@ -1,7 +1,7 @@
 -- A draft that is stepped as far as it goes: it is complete, or the first missing token is in its way.
-use Rattle.std.proofs.Common.{◌≡◌, ℕ, zero, suc, ◌+◌, ◌-◌, ◌^◌, ◌<◌, ◌≤◌, Bool, true, false, cond, ◌&&◌, ltb, leb, ◌⊎◌, List, [], ◌∷◌, length, Some, None, Ok, Err, Option, Result, sym, refl, ap, ◌∙◌, subst, ap₂, inl, inr, ⊎_elim, arith, pow_mono}
-use Rattle.std.proofs.lemmas.Bool.{cases_lt, cases_order, cases_Bool, cond-true, cond-false, le-ltb, ltb-true, leb-true, and_parts}
-use Rattle.growth.specs.Order.{Reached, join_due}
+use Rattle.std.proofs.Common.{◌≡◌, ℕ, zero, suc, ◌+◌, ◌-◌, ◌^◌, ◌<◌, ◌≤◌, cond, ◌&&◌, ltb, leb, ◌⊎◌, [], ◌∷◌, length, Some, None, Ok, Err, Option, Result, sym, refl, ap, ◌∙◌, subst, ap₂, inl, inr, ⊎_elim, arith, pow_mono}
+use Rattle.std.proofs.lemmas.Bool.{cases_lt, cases_Bool, cond-true, cond-false, le-ltb, ltb-true, leb-true, and_parts}
+use Rattle.growth.specs.Order.{join_due}
 use Rattle.growth.proofs.Ends.{twice_pow}
 use Rattle.growth.proofs.Making.{leaf_room}
 use Rattle.growth.proofs.Counting.{joined_whole, unfinished}
@@ -21,7 +21,7 @@ use Rattle.traversal.proofs.Beginning.{passed}
 use Rattle.traversal.proofs.Drafting.{height_facts}
 use Rattle.traversal.proofs.Stepping.{most}
 use Rattle.session.specs.History.{stop, and_step, and_turn}
-use Rattle.session.specs.Law.{nodes, AllPresent}
+use Rattle.session.specs.Law.{AllPresent}
 use Rattle.session.specs.Root.{or_else, first_lack, root_refusal, Around, DraftsRoot, Finished}
 use Rattle.session.proofs.Histories.{none_some, lawful_from}
 

@@ -1,12 +1,11 @@
 -- The law over all lists of calls on a draft, refused calls included.
-use Rattle.std.specs.Prelude.{◌≡◌, ℕ, ◌+◌, ◌-◌, ◌*◌, ◌^◌, ◌<◌, ◌≤◌, min, Bool, true, false, List, [], ◌∷◌, length, Ok, Err, Decides, Result, slice_index_or}
+use Rattle.std.specs.Prelude.{◌≡◌, ℕ, ◌+◌, ◌-◌, ◌*◌, ◌^◌, ◌<◌, ◌≤◌, min, List, [], ◌∷◌, length, Ok, Err, Decides, Result, slice_index_or}
 use Rattle.tree.specs.Meaning.{Meaning, after}
 use Rattle.tree.specs.Supply.{Supply, presence}
 use Rattle.tree.specs.declared.fault.Presence.TheVariants.{Present}
 use Rattle.tree.specs.Tree.{node_at, root_of}
 use Rattle.tree.specs.Geometry.{levels, table_size, existing_start}
 use Rattle.traversal.specs.declared.state.Draft.{Draft}
-use Rattle.traversal.specs.declared.state.Run.{Run}
 use Rattle.traversal.specs.declared.refusal.Refusal.{Refusal}
 use Rattle.traversal.specs.Plots.{row_start}
 use Rattle.traversal.specs.Worlds.{World, tokens}

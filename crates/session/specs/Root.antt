@@ -6,7 +6,6 @@ use Rattle.tree.specs.Supply.{Supply, presence}
 use Rattle.tree.specs.Tree.{root_of}
 use Rattle.tree.specs.Geometry.{table_size}
 use Rattle.traversal.specs.declared.refusal.Refusal.{Refusal}
-use Rattle.traversal.specs.declared.refusal.Refusal.TheVariants.{Table}
 use Rattle.traversal.specs.declared.state.Run.{Run}
 use Rattle.traversal.specs.Worlds.{World, tokens}
 use Rattle.traversal.specs.Calls.{begin_checks, lacking}

@@ -134,6 +134,6 @@ accepts_foreign bs top r told tokens H n legal below long is-strip is-root =
     let root = root_of sealed_meaning tokens H in
     let size = ap length is-root ∙ sealed_lawful.fills root in
     let none = full_faultless sealed_meaning sealed_lawful bs tokens H n legal below long is-strip in
-    let Told-here = when_true (Tells bs top (fault_in sealed_meaning bs) r) (r ≡ 7) (eq-eqb (length top) 32 size) told in
-    let verdict : Tells bs top None r = subst (λ o. Tells bs top o r) none Told-here in
+    let told_here = when_true (Tells bs top (fault_in sealed_meaning bs) r) (r ≡ 7) (eq-eqb (length top) 32 size) told in
+    let verdict : Tells bs top None r = subst (λ o. Tells bs top o r) none told_here in
     verdict.0 (ap sealed_meaning.read is-root ∙ sealed_lawful.reads_back root ∙ ap Some (sym (full_leads sealed_meaning sealed_lawful bs tokens H n legal below long is-strip)))

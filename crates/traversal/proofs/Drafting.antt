@@ -1,15 +1,14 @@
 -- The layout of a draft fits a table of the right size.
-use Rattle.std.proofs.Common.{◌≡◌, ℕ, zero, suc, ◌+◌, ◌-◌, ◌*◌, ◌/◌, ◌%◌, ◌^◌, ◌<◌, ◌≤◌, true, cond, ◌&&◌, eqb, leb, ◌⊎◌, Some, None, Ok, Err, sym, refl, ap, ◌∙◌, subst, ap₂, inl, inr, ⊎_elim, mul_comm, add-mul, pow-suc, div-add-mod', zero-mul, mul-add, arith, lit<, pow_pos}
+use Rattle.std.proofs.Common.{◌≡◌, ℕ, zero, suc, ◌+◌, ◌-◌, ◌*◌, ◌%◌, ◌^◌, ◌≤◌, true, leb, None, Ok, sym, ap, ◌∙◌, ap₂, ⊎_elim, add-mul, pow-suc, div-add-mod', mul-add, arith, lit<}
 use Rattle.std.proofs.lemmas.Nat.{mul-le, shl_whole}
-use Rattle.std.proofs.lemmas.Bool.{and_parts, leb-true, cases_lt, cond-true, cond-false, le-leb}
-use Rattle.growth.specs.Order.{joined, join_due}
+use Rattle.std.proofs.lemmas.Bool.{and_parts, leb-true, cases_lt, cond-true, cond-false}
+use Rattle.growth.specs.Order.{join_due}
 use Rattle.growth.proofs.Ends.{twice_pow}
 use Rattle.growth.proofs.Counting.{joined_most}
 use Rattle.tree.specs.Numbers.{legal_height}
-use Rattle.tree.specs.Geometry.{legal_subtree, levels, subtree_cells, table_size, existing_start, following_start}
+use Rattle.tree.specs.Geometry.{levels, subtree_cells, existing_start, following_start}
 use Rattle.tree.proofs.Rows.{in_a_row, subtree_facts, some_level}
 use Rattle.growth.specs.Places.{Room}
-use Rattle.traversal.specs.declared.plot.Plot.{Plot}
 use Rattle.traversal.specs.declared.treehash.Treehash.{Treehash}
 use Rattle.traversal.specs.Plots.{layout, depth, Legal}
 use Rattle.traversal.specs.Shapes.{Shaped, draft_plot}

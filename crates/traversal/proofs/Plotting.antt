@@ -1,6 +1,5 @@
 -- The layout of a plot is sound.
-use Rattle.std.proofs.Common.{◌≡◌, ℕ, zero, suc, ◌+◌, ◌-◌, ◌*◌, ◌/◌, ◌%◌, ◌^◌, ◌<◌, ◌≤◌, Bool, true, false, cond, ◌&&◌, ◌||◌, eqb, ltb, leb, ◌⊎◌, Decides, sym, refl, ap, ◌∙◌, subst, ap₂, inl, inr, ⊎_elim, mod-lt, mod-eq_of_lt, add-mul, pow-suc, div-add-mod', arith, pow_pos, pow_mono}
-use native.Mathlib.Nat.{add-mod, mul-mod_left}
+use Rattle.std.proofs.Common.{◌≡◌, ℕ, suc, ◌+◌, ◌-◌, ◌*◌, ◌/◌, ◌%◌, ◌^◌, ◌<◌, ◌≤◌, ◌&&◌, eqb, ltb, leb, ◌⊎◌, Decides, sym, ap, ◌∙◌, subst, ap₂, inl, inr, ⊎_elim, mod-lt, add-mul, pow-suc, div-add-mod', arith, pow_mono}
 use Rattle.std.proofs.lemmas.Bool.{cases_lt, cases_order, leb-true, le-leb, cond-true, cond-false, eq-eqb, ne_eqb}
 use Rattle.std.proofs.lemmas.Bool.Decides.{Decides-and, Decides-or, Decides-ltb, Decides-eqb}
 use Rattle.std.proofs.lemmas.Nat.{div-mul-add, mod-mul-add, mul-le, div_below}

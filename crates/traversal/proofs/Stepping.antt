@@ -1,5 +1,5 @@
 -- Units of a draft in a row, and why they stop.
-use Rattle.std.proofs.Common.{◌≡◌, ℕ, ◌+◌, ◌-◌, ◌^◌, ◌<◌, ◌≤◌, Bool, true, false, cond, ◌&&◌, ltb, ◌⊎◌, length, Some, None, Ok, Err, Option, sym, refl, ap, ◌∙◌, subst, ap₂, inl, inr, ⊎_elim, arith}
+use Rattle.std.proofs.Common.{◌≡◌, ℕ, ◌+◌, ◌-◌, ◌<◌, ◌≤◌, ◌&&◌, ltb, ◌⊎◌, Some, None, sym, refl, ap, ◌∙◌, subst, ap₂, inl, inr, ⊎_elim, arith}
 use Rattle.std.proofs.lemmas.Bool.{cond-true, cond-false, lt-ltb, le-ltb, and_left, and_right, and_from}
 use Rattle.tree.specs.Geometry.{table_size}
 use Rattle.tree.specs.Meaning.{Wraps}
@@ -12,7 +12,7 @@ use Rattle.traversal.specs.Worlds.{World}
 use Rattle.traversal.specs.declared.treehash.Made.{Made}
 use Rattle.traversal.specs.declared.treehash.Made.TheVariants.{Leaf, Join}
 use Rattle.traversal.specs.Units.{pair_of, Advanced}
-use Rattle.traversal.specs.Calls.{units, units_in_all, Drafted, unit_lacks, WentOn, step_refusal, Stepped}
+use Rattle.traversal.specs.Calls.{units, units_in_all, Drafted, unit_lacks, WentOn, step_refusal}
 use Rattle.traversal.proofs.Advancing.{advanced_none, advanced_then}
 use Rattle.traversal.proofs.Drafting.{units_most}
 

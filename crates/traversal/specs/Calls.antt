@@ -1,5 +1,5 @@
 -- What each call of a traversal answers and leaves.
-use Rattle.std.specs.Prelude.{◌≡◌, ℕ, ◌+◌, ◌-◌, ◌^◌, ◌<◌, ◌≤◌, Bool, true, false, cond, not, ◌&&◌, ◌⊎◌, List, [], ◌∷◌, length, Some, None, Ok, Err, Option, Result, nat_le, nat_lt, slice_index_or}
+use Rattle.std.specs.Prelude.{◌≡◌, ℕ, ◌+◌, ◌-◌, ◌^◌, ◌<◌, ◌≤◌, Bool, cond, ◌&&◌, ◌⊎◌, List, [], ◌∷◌, length, Some, None, Ok, Err, Option, Result, nat_le, nat_lt, slice_index_or}
 use Rattle.growth.specs.Order.{join_due}
 use Rattle.tree.specs.Numbers.{legal_height}
 use Rattle.tree.specs.Geometry.{legal_subtree, table_size}
@@ -7,11 +7,9 @@ use Rattle.tree.specs.Refusals.{first_refusal}
 use Rattle.tree.specs.Supply.{Supply, presence}
 use Rattle.tree.specs.declared.fault.Presence.{Presence}
 use Rattle.tree.specs.declared.fault.Presence.TheVariants.{Present, Absent}
-use Rattle.tree.specs.declared.fault.Cause.{Cause}
 use Rattle.traversal.specs.declared.treehash.Made.{Made}
 use Rattle.traversal.specs.declared.fault.DraftFault.{DraftFault}
 use Rattle.traversal.specs.declared.refusal.Layer.TheVariants.{Draft as in_draft}
-use Rattle.traversal.specs.declared.refusal.Lack.{Lack}
 use Rattle.traversal.specs.declared.refusal.Refusal.{Refusal}
 use Rattle.traversal.specs.declared.refusal.Refusal.TheVariants.{Height, Subtree, Table, Source, Token}
 use Rattle.traversal.specs.declared.state.Draft.{Draft}

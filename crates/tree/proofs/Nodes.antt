@@ -52,7 +52,7 @@ module _ {N : Type 0} (m : Meaning N) (ok : Lawful m) where
       ∙ ap (λ ys. Some (leads_to m.join number start ys)) nodes
 
   pub folds_to_root : (number : ℕ) (start : N) (bytes : List ℕ) → FoldsToRoot m number start bytes (folded m number start bytes)
-  folds_to_root number start bytes tokens H lt is_IsLeaf is-path =
-      ap₂ (folded m number) is_IsLeaf is-path
+  folds_to_root number start bytes tokens H lt is_leaf is_path =
+      ap₂ (folded m number) is_leaf is_path
       ∙ folded_path_bytes number (m.leaf number (tokens number)) (path_of m tokens H number)
       ∙ ap Some (path_leads_to_root m tokens H number lt)

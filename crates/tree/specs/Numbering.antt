@@ -26,8 +26,8 @@ bytes_of_number a b c d rest ha hb hc hd =
     let at_a : n / 2 ^ 24 % 256 ≡ a = omega arith in
     let at_b : n / 2 ^ 16 % 256 ≡ b = omega arith in
     let at_c : n / 2 ^ 8 % 256 ≡ c = omega arith in
-    let at-d : n % 256 ≡ d = omega arith in
-    λ i. at_a i ∷ at_b i ∷ at_c i ∷ at-d i ∷ []
+    let at_d : n % 256 ≡ d = omega arith in
+    λ i. at_a i ∷ at_b i ∷ at_c i ∷ at_d i ∷ []
 
 -- a number is below a power of two where its shift is 0
 pub shift_test : (n h : ℕ) → (n / 2 ^ h == 0) ≡ nat_lt n (2 ^ h)

@@ -6,7 +6,7 @@ use Rattle.std.proofs.Math.Bool.{Bool-set}
 use Rattle.std.proofs.lemmas.Bool.{both_ways, cases_Bool, cond-true, cond-false, and_parts, and_right, eqb-true, ne_eqb}
 use Rattle.tree.specs.Meaning.{Lawful, OneSpelling}
 use Rattle.tree.specs.Numbers.{number_at, aligned}
-use Rattle.tree.specs.Spans.{span_if, span, put_span, is_broken, read_span, dummy_meaning}
+use Rattle.tree.specs.Spans.{span_if, span, put_span, are_broken, read_span, dummy_meaning}
 use Rattle.tree.specs.Aligning.{fits}
 use Rattle.tree.specs.Numbering.{number_at_bytes, bytes_of_number}
 use Rattle.tree.specs.declared.span.Interval.{Interval}
@@ -33,9 +33,9 @@ pub span_broken : (f t : ℕ) → aligned f t ≡ false → span f t ≡ Broken
 span_broken f t bad = broken_if f t (aligned f t) refl bad
 
 -- bytes that are not broken and name whole leaves
-pub read_whole : (bs : List ℕ) → is_broken bs ≡ false → aligned (number_at 0 bs) (slice_index bs 4) ≡ true → read_span bs ≡ Some (span (number_at 0 bs) (slice_index bs 4))
+pub read_whole : (bs : List ℕ) → are_broken bs ≡ false → aligned (number_at 0 bs) (slice_index bs 4) ≡ true → read_span bs ≡ Some (span (number_at 0 bs) (slice_index bs 4))
 read_whole bs sound whole =
-    cond-false (is_broken bs) (Some Broken) _ sound
+    cond-false (are_broken bs) (Some Broken) _ sound
     ∙ cond-true (aligned (number_at 0 bs) (slice_index bs 4)) (Some (span (number_at 0 bs) (slice_index bs 4))) None whole
 
 -- only the first five bytes count
@@ -50,10 +50,10 @@ read_front (a ∷ b ∷ c ∷ d ∷ e ∷ rest) h = refl
 read_put : (x : Span) → read_span (put_span x) ≡ Some x
 read_put Broken = refl
 read_put (Sound a) =
-    let in-range = fits a.first a.height a.whole in
+    let in_range = fits a.first a.height a.whole in
     let bs : List ℕ = put_span (Sound a) in
     let back : number_at 0 bs ≡ a.first = number_at_bytes a.first (a.height ∷ []) (omega arith) in
-    let sound : is_broken bs ≡ false = and_right _ (a.height == 255) (ne_eqb a.height 255 (λ e. omega arith)) in
+    let sound : are_broken bs ≡ false = and_right _ (a.height == 255) (ne_eqb a.height 255 (λ e. omega arith)) in
     read_whole bs sound (ap (λ n. aligned n a.height) back ∙ a.whole)
     ∙ ap Some (ap (λ n. span n a.height) back ∙ span_sound a)
 
@@ -71,22 +71,22 @@ dummy_lawful = record {
 }
 
 module _ (a b c d e : ℕ) (x : Span) (found : read_span (a ∷ b ∷ c ∷ d ∷ e ∷ []) ≡ Some x) where
-  spelled_broken : is_broken (a ∷ b ∷ c ∷ d ∷ e ∷ []) ≡ true → put_span x ≡ a ∷ b ∷ c ∷ d ∷ e ∷ []
+  spelled_broken : are_broken (a ∷ b ∷ c ∷ d ∷ e ∷ []) ≡ true → put_span x ≡ a ∷ b ∷ c ∷ d ∷ e ∷ []
   spelled_broken all =
-      let first-four = and_parts _ _ all in
-      let first_three = and_parts _ _ first-four.0 in
+      let first_four = and_parts _ _ all in
+      let first_three = and_parts _ _ first_four.0 in
       let first_two = and_parts _ _ first_three.0 in
       let ends = and_parts _ _ first_two.0 in
-      let is : read_span (a ∷ b ∷ c ∷ d ∷ e ∷ []) ≡ Some Broken = cond-true (is_broken (a ∷ b ∷ c ∷ d ∷ e ∷ [])) (Some Broken) (cond (aligned (number_at 0 (a ∷ b ∷ c ∷ d ∷ e ∷ [])) e) (Some (span (number_at 0 (a ∷ b ∷ c ∷ d ∷ e ∷ [])) e)) None) all in
+      let is : read_span (a ∷ b ∷ c ∷ d ∷ e ∷ []) ≡ Some Broken = cond-true (are_broken (a ∷ b ∷ c ∷ d ∷ e ∷ [])) (Some Broken) (cond (aligned (number_at 0 (a ∷ b ∷ c ∷ d ∷ e ∷ [])) e) (Some (span (number_at 0 (a ∷ b ∷ c ∷ d ∷ e ∷ [])) e)) None) all in
       let broken : x ≡ Broken = cc in
       let at_a = eqb-true a 255 ends.0 in
       let at_b = eqb-true b 255 ends.1 in
       let at_c = eqb-true c 255 first_two.1 in
-      let at-d = eqb-true d 255 first_three.1 in
-      let at-e = eqb-true e 255 first-four.1 in
-      ap put_span broken ∙ sym (λ i. at_a i ∷ at_b i ∷ at_c i ∷ at-d i ∷ at-e i ∷ [])
+      let at_d = eqb-true d 255 first_three.1 in
+      let at_e = eqb-true e 255 first_four.1 in
+      ap put_span broken ∙ sym (λ i. at_a i ∷ at_b i ∷ at_c i ∷ at_d i ∷ at_e i ∷ [])
 
-  spelled_whole : a < 256 → b < 256 → c < 256 → d < 256 → is_broken (a ∷ b ∷ c ∷ d ∷ e ∷ []) ≡ false → aligned (number_at 0 (a ∷ b ∷ c ∷ d ∷ e ∷ [])) e ≡ true → put_span x ≡ a ∷ b ∷ c ∷ d ∷ e ∷ []
+  spelled_whole : a < 256 → b < 256 → c < 256 → d < 256 → are_broken (a ∷ b ∷ c ∷ d ∷ e ∷ []) ≡ false → aligned (number_at 0 (a ∷ b ∷ c ∷ d ∷ e ∷ [])) e ≡ true → put_span x ≡ a ∷ b ∷ c ∷ d ∷ e ∷ []
   spelled_whole ha hb hc hd sound whole =
       let bs : List ℕ = a ∷ b ∷ c ∷ d ∷ e ∷ [] in
       let is = read_whole bs sound whole in
@@ -101,11 +101,11 @@ module _ (a b c d e : ℕ) (x : Span) (found : read_span (a ∷ b ∷ c ∷ d �
       ⊎_elim spelled_broken
       (λ sound. ⊎_elim (spelled_whole ha hb hc hd sound)
       (λ bad.
-      let none = cond-false (is_broken bs) (Some Broken) _ sound ∙ cond-false (aligned (number_at 0 bs) e) (Some (span (number_at 0 bs) e)) None bad in
+      let none = cond-false (are_broken bs) (Some Broken) _ sound ∙ cond-false (aligned (number_at 0 bs) e) (Some (span (number_at 0 bs) e)) None bad in
       let clash : ◌≡◌ {A = ℕ} 0 1 = cc in
       absurd (omega arith))
       (cases_Bool (aligned (number_at 0 bs) e)))
-      (cases_Bool (is_broken bs))
+      (cases_Bool (are_broken bs))
 
 pub dummy_one_spelling : OneSpelling dummy_meaning
 dummy_one_spelling (a ∷ b ∷ c ∷ d ∷ e ∷ []) x long bytes found = spelled_five a b c d e x found (bytes 0) (bytes 1) (bytes 2) (bytes 3)

@@ -28,12 +28,12 @@ put_span (Sound a) = number_bytes a.first ++ a.height ∷ []
 put_span Broken = replicate 5 255
 
 -- five bytes 255
-abbrev pub is_broken : List ℕ → Bool
-is_broken bs = slice_index bs 0 == 255 && slice_index bs 1 == 255 && slice_index bs 2 == 255 && slice_index bs 3 == 255 && slice_index bs 4 == 255
+abbrev pub are_broken : List ℕ → Bool
+are_broken bs = slice_index bs 0 == 255 && slice_index bs 1 == 255 && slice_index bs 2 == 255 && slice_index bs 3 == 255 && slice_index bs 4 == 255
 
 abbrev pub read_span : List ℕ → Option Span
 read_span bs =
-    cond (is_broken bs) (Some Broken)
+    cond (are_broken bs) (Some Broken)
     (cond (aligned (number_at 0 bs) (slice_index bs 4)) (Some (span (number_at 0 bs) (slice_index bs 4))) None)
 
 abbrev pub dummy_meaning : Meaning Span

@@ -1,7 +1,7 @@
 ghost use Rattle.std.specs.Prelude.{◌≡◌, ◌^◌, ◌≤◌, length, Decides};
 ghost use Rattle.tree.specs.Numbers.{aligned};
 ghost use Rattle.tree.specs.Meaning.{reading, OneSpelling};
-ghost use Rattle.tree.specs.Spans.{span, join_intervals, join_spans, put_span, is_broken, read_span, dummy_meaning};
+ghost use Rattle.tree.specs.Spans.{span, join_intervals, join_spans, put_span, are_broken, read_span, dummy_meaning};
 ghost use Rattle.tree.specs.declared.span.Span.TheVariants.{Sound, Broken};
 ghost use Rattle.tree.specs.Spanning.{dummy_lawful};
 ghost use Rattle.std.proofs.Common.{rules};
@@ -190,7 +190,7 @@ fn span_bytes(node: Span) -> [u8; 5]
 // Whether the first five bytes are those of the broken span.
 fn are_broken(bytes: &[u8]) -> bool
     requires { 5 ≤ length bytes.now }
-    ensures { result ≡ is_broken bytes.now }
+    ensures { result ≡ are_broken bytes.now }
 {
     bytes[0] == BROKEN
         && bytes[1] == BROKEN

@@ -1,4 +1,4 @@
-use Rattle.std.proofs.Common.{◌≡◌, Some, sym, ap, ◌∙◌, lit≤}
+use Rattle.std.proofs.Common.{Some, sym, ap, ◌∙◌, lit≤}
 use Rattle.session.proofs.Histories.{none_some}
 use Rattle.draft_bench.specs.Roots.{seed_root}
 use Rattle.draft_bench.proofs.Fitting.{unrefused}

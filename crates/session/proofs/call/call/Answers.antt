@@ -1,5 +1,5 @@
-use Rattle.std.proofs.Common.{◌≡◌, Ok, Err, sym, refl}
-use Rattle.session.specs.History.{History, stop, and_step, and_turn}
+use Rattle.std.proofs.Common.{Ok, Err, sym}
+use Rattle.session.specs.History.{stop, and_step, and_turn}
 use Rattle.session.proofs.call.call.Goals as goal
 
 pub returns-in-Step : goal.returns-in-Step

@@ -1,4 +1,4 @@
-use Rattle.std.proofs.Common.{◌≡◌, ◌^◌, ◌<◌, ◌≤◌, length, Some, sym, ap, ◌∙◌, subst, arith, lit≤}
+use Rattle.std.proofs.Common.{◌<◌, ◌≤◌, length, sym, ap, ◌∙◌, subst, arith, lit≤}
 use Rattle.traversal.specs.Worlds.{world}
 use Rattle.traversal.specs.Calls.{units, units_in_all, unit_lacks}
 use Rattle.session.proofs.Rooting.{room, starves, starved_root, rooted}

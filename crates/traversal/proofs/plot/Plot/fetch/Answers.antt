@@ -1,4 +1,4 @@
-use Rattle.std.proofs.Common.{◌≡◌, ℕ, ◌+◌, ◌-◌, ◌<◌, ◌≤◌, length, get_or, sym, refl, ap, ◌∙◌, arith}
+use Rattle.std.proofs.Common.{◌≡◌, ◌+◌, ◌-◌, ◌<◌, length, get_or, sym, refl, ap, ◌∙◌, arith}
 use Rattle.growth.specs.Places.{place, stacked_below}
 use Rattle.growth.proofs.Placing.{place_own, place_tail, place_inside}
 use Rattle.traversal.specs.Plots.{layout, depth, owns_cell}

@@ -1,7 +1,6 @@
-use Rattle.std.proofs.Common.{◌≡◌, ℕ, ◌+◌, ◌-◌, ◌<◌, ◌≤◌, length, set, sym, ap, ◌∙◌, arith}
+use Rattle.std.proofs.Common.{◌≡◌, ◌+◌, ◌-◌, ◌<◌, ◌≤◌, length, set, sym, ap, ◌∙◌, arith}
 use Rattle.growth.specs.Places.{place}
 use Rattle.growth.proofs.Placing.{place_own, place_tail, place_inside}
-use Rattle.tree.specs.Geometry.{subtree_cells}
 use Rattle.traversal.specs.Plots.{layout, depth, owns_cell}
 use Rattle.traversal.proofs.Plotting.{sound}
 use Rattle.traversal.proofs.Sections.{length_part, write_part, no_more, one_more}

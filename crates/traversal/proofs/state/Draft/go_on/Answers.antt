@@ -1,4 +1,4 @@
-use Rattle.std.proofs.Common.{◌≡◌, ℕ, ◌+◌, ◌-◌, ◌≤◌, sym, ap, ◌∙◌, subst, arith}
+use Rattle.std.proofs.Common.{ℕ, ◌+◌, sym, ap, ◌∙◌, subst, arith}
 use Rattle.traversal.specs.declared.refusal.Refusal.TheVariants.{Token}
 use Rattle.traversal.specs.Refusals.{draft_lack}
 use Rattle.traversal.specs.Worlds.{world}

@@ -1,10 +1,10 @@
-use Rattle.std.proofs.Common.{◌≡◌, ℕ, ◌+◌, ◌-◌, ◌<◌, ◌≤◌, ◌⊎◌, length, sym, refl, ap, ◌∙◌, subst, inl, inr, arith}
+use Rattle.std.proofs.Common.{◌≡◌, ℕ, ◌+◌, ◌-◌, ◌<◌, ◌≤◌, length, sym, ◌∙◌, subst, inl, inr, arith}
 use Rattle.std.proofs.lemmas.Result.{err_from_is_err_and}
 use Rattle.tree.specs.Geometry.{table_size}
 use Rattle.traversal.specs.Worlds.{world}
 use Rattle.traversal.specs.Units.{pair_of}
 use Rattle.traversal.specs.Calls.{units, units_in_all, WentOn}
-use Rattle.traversal.proofs.Stepping.{most, nothing_due, first_unit, drafted_none, went_on, complete, spent, one_made}
+use Rattle.traversal.proofs.Stepping.{nothing_due, first_unit, drafted_none, went_on, complete, spent, one_made}
 use Rattle.traversal.proofs.state.Draft.step.Goals as goal
 use Rattle.traversal.proofs.state.Draft.step.Goals.{then-budget-eq0-via-then-budget-eq0, then-budget-eq0-via-else-budget-eq0+then-missing-eq0}
 

@@ -1,9 +1,7 @@
-use Rattle.std.proofs.Common.{◌≡◌, ◌+◌, ◌-◌, ◌^◌, ◌<◌, length, Ok, sym, refl, subst, arith}
+use Rattle.std.proofs.Common.{length, Ok, sym, refl, subst, arith}
 use Rattle.growth.proofs.Counting.{unfinished}
 use Rattle.growth.specs.Places.{Room}
-use Rattle.traversal.specs.declared.plot.Plot.{Plot}
 use Rattle.traversal.specs.Plots.{layout, depth, Legal}
-use Rattle.traversal.specs.Shapes.{draft_plot}
 use Rattle.traversal.specs.Worlds.{world}
 use Rattle.traversal.specs.Units.{Standing, Unfinished, UnitMade}
 use Rattle.traversal.proofs.Drafting.{draft_legal, draft_room, unit_taken}

@@ -1,4 +1,4 @@
-use Rattle.std.proofs.Common.{◌≡◌, ℕ, ◌+◌, ◌-◌, ◌*◌, ◌/◌, ◌%◌, ◌^◌, ◌<◌, ◌≤◌, cond, length, get_or, set, sym, refl, ap, ◌∙◌, arith, pow_mono}
+use Rattle.std.proofs.Common.{◌≡◌, ℕ, ◌+◌, ◌-◌, ◌/◌, ◌^◌, ◌<◌, cond, length, get_or, set, refl, ap, ◌∙◌, arith, pow_mono}
 use Rattle.std.proofs.lemmas.List.{get_or_read}
 use Rattle.growth.specs.Order.{newest}
 use Rattle.growth.specs.Places.{place, stacked_below}

@@ -1,4 +1,4 @@
-use Rattle.std.proofs.Common.{sym, ◌∙◌}
+use Rattle.std.proofs.Common.{sym}
 use Rattle.traversal.proofs.treehash.Treehash.unit.Goals as goal
 
 pub returns-then-is_join_due : goal.returns-then-is_join_due
