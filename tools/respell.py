@@ -12,6 +12,10 @@ LETTER = r"\w'\-′₀-₉₋"
 DECLARED = re.compile(
     r"^\s*(?:(?:abbrev|unfoldable|pub|record|data|ruleset)\s+)*([^\s(){}:=.,]+)(?:\s+[({].*)?\s+:\s+(.*)$")
 
+# A definition that would have the name of a function with another meaning beside it, and names within proofs whose
+# like were turned by the port script.
+BY_HAND = {"is-broken": "are_broken", "first-four": "first_four", "at-d": "at_d", "at-e": "at_e", "in-range": "in_range"}
+
 
 def respelled(name):
     if name[0].isupper() and not re.match(r"^[A-Z]-", name):
@@ -43,7 +47,7 @@ def page(text, turn, known):
 
 def main():
     proofs = sorted(pathlib.Path("crates").glob("*/specs/**/*.antt")) + sorted(pathlib.Path("crates").glob("*/proofs/**/*.antt"))
-    names = {n: respelled(n) for n in declared(proofs) if respelled(n) != n}
+    names = {n: respelled(n) for n in declared(proofs) if respelled(n) != n} | BY_HAND
     texts = proofs + sorted(pathlib.Path("crates").glob("*/src/**/*.rt")) + sorted(pathlib.Path("crates").glob("*/must-fail/*.edit"))
     pages = [pathlib.Path("README.md")] + sorted(pathlib.Path("docs").glob("*.md"))
     whole = "\n".join(f.read_text() for f in texts)
