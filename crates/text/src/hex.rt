@@ -1,4 +1,5 @@
-ghost use Rattle.std.specs.Prelude.{◌≡◌};
+ghost use Rattle.std.specs.Prelude.{◌≡◌, Some};
+ghost use Rattle.strip.specs.Hex.{hex_text};
 ghost use Rattle.text.specs.declared.hex.NoBytes.TheVariants.{NoMemory};
 ghost use Rattle.text.specs.Hex.{Decodes};
 
@@ -6,6 +7,21 @@ use std::alloc::{AllocFailed, Global};
 use std::error::Error;
 use std::fmt;
 use strip::hex::digit;
+
+// Bytes, to be shown in lower-case hex, two digits a byte.
+#[derive(Clone, Copy)]
+pub struct Hex<'a>(pub &'a [u8]);
+
+impl fmt::Display for Hex<'_> {
+    ghost output = { λ hex. Some (hex_text hex.0.now) };
+
+    fn fmt<W: fmt::Write>(&self, f: &mut fmt::Formatter<W>) -> fmt::Result {
+        for &byte in self.0 {
+            write!(f, "{byte:02x}")?;
+        }
+        Ok(())
+    }
+}
 
 // Why a text gives no bytes.
 #[derive(Drop, Debug)]
