@@ -17,5 +17,5 @@ pub fn digest(message: &[u8]) -> [u8; 32]
     ensures { result ≡ sha256 message.now }
 {
     let (blocks, rest) = message.as_chunks::<BLOCK>();
-    absorb_end(INITIAL.absorb(blocks), rest, message.len()).to_bytes()
+    absorb_end(INITIAL.absorb(blocks), rest, message.len()).into()
 }

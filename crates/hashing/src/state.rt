@@ -135,13 +135,15 @@ impl State {
     {
         blocks.iter().fold(self, State::compress)
     }
+}
 
-    /// The words in a row, each with its most significant byte first.
-    pub fn to_bytes(self) -> [u8; 32]
-        ensures { result ≡ bytes_of self }
-    {
+/// The words in a row, each with its most significant byte first.
+impl From<State> for [u8; 32] {
+    ghost from_gives = { λ state bytes. bytes ≡ bytes_of state };
+
+    fn from(state: State) -> [u8; 32] {
         let words = [
-            self.a, self.b, self.c, self.d, self.e, self.f, self.g, self.h,
+            state.a, state.b, state.c, state.d, state.e, state.f, state.g, state.h,
         ];
         let mut bytes = [0; 32];
         bytes.copy_from_slice(words.map(u32::to_be_bytes).as_flattened());

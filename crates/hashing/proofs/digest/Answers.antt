@@ -10,4 +10,4 @@ returns c =
     let m = c.args.message.now in
     let start = c.absorb.ensures ∙ hashed_all_is initial m _ c.as_chunks.ensures.front in
     let end = c.absorb_end.ensures in
-    c.to_bytes.ensures ∙ ap bytes_of (rw (start, c.as_chunks.ensures.back) at end ∙ absorbed initial m)
+    c.into.ensures ∙ ap bytes_of (rw (start, c.as_chunks.ensures.back) at end ∙ absorbed initial m)

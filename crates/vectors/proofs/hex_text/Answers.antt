@@ -11,5 +11,5 @@ returns c =
     let bytes = c.args.bytes in
     let size : length bytes ≡ 32 = search rules in
     c.copy_from_slice.ensures.after ∙ c.as_flattened.ensures.value ∙
-    ap (flat_map (λ x. x)) (map_is _ hex_pair (λ p q x y k. search rules) _ bytes _ 32 size c.map.ensures.items) ∙
+    ap (flat_map (λ x. x)) (map_is c.map.ensures.items size hex_pair (λ p q x y k. search rules)) ∙
     flat_map-map (λ x. x) hex_pair bytes

@@ -1,10 +1,7 @@
-use Rattle.std.proofs.Common.{sym, ap, ◌∙◌, add_assoc, arith, length-set, rules}
+use Rattle.std.proofs.Common.{sym, ap, ◌∙◌, add_assoc, arith, length-set}
 use Rattle.hashing.specs.Sha256.{W}
 use Rattle.hashing.proofs.Schedule.{rolled_more}
 use Rattle.hashing.proofs.state.following.Goals as goal
-
-pub loop-j-init : goal.loop-j-init
-loop-j-init c = (search rules, λ m t h. record { newer = λ k l. absurd (omega arith); older = λ k l r. h k r })
 
 pub loop-j-preserved : goal.loop-j-preserved
 loop-j-preserved c =

@@ -26,9 +26,9 @@ loop-constants-preserved c =
     let first : iter_rest (zip_first start) ≡ ROUND_CONSTANTS = search rules in
     let second : iter_rest (zip_second start) ≡ PADDING_SCHEDULE = search rules in
     let now =
-        zip_turn ROUND_CONSTANTS PADDING_SCHEDULE c.loop-constants.yielded start c.loop-constants.constants-iterator
-        c.next.new.self c.next.result first second c.loop-constants.yielded_by (c.in-Some.constants, c.in-Some.words)
-        c.in-Some.is c.next.ensures.steps in
+    zip_turn ROUND_CONSTANTS PADDING_SCHEDULE c.loop-constants.yielded start c.loop-constants.constants-iterator
+    c.next.new.self c.next.result first second c.loop-constants.yielded_by (c.in-Some.constants, c.in-Some.words)
+    c.in-Some.is c.next.ensures.steps in
     let i = length c.loop-constants.yielded in
     let within : i < 4 = now.0 in
     let count = length_push c.loop-constants.yielded (c.in-Some.constants, c.in-Some.words) in
@@ -49,6 +49,6 @@ returns c =
     let first : iter_rest (zip_first start) ≡ ROUND_CONSTANTS = search rules in
     let second : iter_rest (zip_second start) ≡ PADDING_SCHEDULE = search rules in
     let all =
-        zip_end ROUND_CONSTANTS PADDING_SCHEDULE c.loop-constants.yielded start c.loop-constants.constants-iterator
-        c.next.new.self c.next.result first second c.loop-constants.yielded_by c.in-None.is c.next.ensures.steps in
+    zip_end ROUND_CONSTANTS PADDING_SCHEDULE c.loop-constants.yielded start c.loop-constants.constants-iterator
+    c.next.new.self c.next.result first second c.loop-constants.yielded_by c.in-None.is c.next.ensures.steps in
     c.plus.ensures ∙ ap (λ s. plus s c.args.self) (rw all at c.loop-constants.invariant)
