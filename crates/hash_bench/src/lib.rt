@@ -13,9 +13,9 @@ pub extern "C" fn bench_digest(message: &[u8], out: &mut [u8]) -> bool
     ensures short { length out.old < 32 → (result ≡ false) × (out.new ≡ out.old) }
     ensures written { 32 ≤ length out.old → (result ≡ true) × (out.new ≡ sha256 message.now ++ drop 32 out.old) }
 {
-    if out.len() < DIGEST {
+    let Some(front) = out.first_chunk_mut::<DIGEST>() else {
         return false;
-    }
-    out[0..DIGEST].copy_from_slice(&hashing::digest(message));
+    };
+    *front = hashing::digest(message);
     true
 }

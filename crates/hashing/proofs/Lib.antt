@@ -1,5 +1,5 @@
+pub mod Arrays
 mod Blocks
-pub mod Bytes
 mod Digits
 mod Ending
 pub mod Lengths

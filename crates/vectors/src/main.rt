@@ -35,9 +35,7 @@ fn hex_text(bytes: [u8; 32]) -> [u8; 64]
     ensures { result ≡ hex_text bytes }
 {
     let mut text = [0; 64];
-    for (i, byte) in bytes.iter().enumerate() {
-        text[2 * i..2 * i + 2].copy_from_slice(&hex_pair(*byte));
-    }
+    text.copy_from_slice(bytes.map(hex_pair).as_flattened());
     text
 }
 
