@@ -30,10 +30,7 @@ pub fn front_node<M: Maker>(maker: &M, bytes: &[u8]) -> Option<M::Node>
     ensures value { result ≡ front_node (M.meaning maker.now) bytes.now }
     ensures room { OnSome result ((M.meaning maker.now).width ≤ length bytes.now) }
 {
-    match maker.read(bytes) {
-        Ok(node) => node,
-        Err(_) => None,
-    }
+    maker.read(bytes).unwrap_or(None)
 }
 
 // The parent of a node of the given index and its sibling.
