@@ -1,5 +1,6 @@
 -- Numbers as four bytes and back, and the test of a number against a height.
-use Rattle.std.specs.Prelude.{◌≡◌, ℕ, ◌+◌, ◌*◌, ◌/◌, ◌%◌, ◌^◌, ◌<◌, ◌≤◌, true, List, [], ◌∷◌, ◌++◌, ◌==◌, nat_lt}
+use Rattle.std.specs.Prelude.{◌≡◌, ℕ, ◌+◌, ◌*◌, ◌/◌, ◌%◌, ◌^◌, ◌<◌, ◌≤◌, List, [], ◌∷◌, ◌++◌, Some, None, Option, ◌==◌, nat_lt, unwrap_or}
+use Rattle.std.specs.Option.{SomeIff}
 use Rattle.std.proofs.Common.{sym, ap, ◌∙◌, ⊎_elim, arith, shr-shr, pow_pos, pow_mono}
 use Rattle.std.proofs.Math.Nat.{div-eq_of_lt}
 use Rattle.std.proofs.lemmas.Nat.{le-div}
@@ -29,15 +30,15 @@ bytes_of_number a b c d rest ha hb hc hd =
     let at_d : n % 256 ≡ d = omega arith in
     λ i. at_a i ∷ at_b i ∷ at_c i ∷ at_d i ∷ []
 
--- a number is below a power of two where its shift is 0
-pub shift_test : (n h : ℕ) → (n / 2 ^ h == 0) ≡ nat_lt n (2 ^ h)
-shift_test n h =
-    ⊎_elim (λ below. eq-eqb (n / 2 ^ h) 0 (div-eq_of_lt below) ∙ sym (lt-ltb n (2 ^ h) below))
+-- a number is below a power of two where its shift is 0, or the power is past all numbers of 32 bits
+pub shift_test : (n h : ℕ) (shifted : Option ℕ) → n < 2 ^ 32 → SomeIff shifted (h < 32) (n / 2 ^ h) → (unwrap_or shifted 0 == 0) ≡ nat_lt n (2 ^ h)
+shift_test n h None small tall =
+    let wide = pow_mono {i = 32} {j = h} (⊎_elim (λ low. absurd (tall low)) (λ high. high) (cases_lt h 32)) in
+    sym (lt-ltb n (2 ^ h) (omega arith))
+shift_test n h (Some q) small (low, is) =
+    ap (λ k. k == 0) is
+    ∙ ⊎_elim (λ below. eq-eqb (n / 2 ^ h) 0 (div-eq_of_lt below) ∙ sym (lt-ltb n (2 ^ h) below))
     (λ above.
     let some : 1 ≤ n / 2 ^ h = le-div 1 n (2 ^ h) (pow_pos h) (omega arith) in
     ne_eqb (n / 2 ^ h) 0 (λ e. omega arith) ∙ sym (le-ltb n (2 ^ h) above))
     (cases_lt n (2 ^ h))
-
--- every number of 32 bits is below a power past that
-pub below_any : (n h : ℕ) → n < 2 ^ 32 → 32 ≤ h → nat_lt n (2 ^ h) ≡ true
-below_any n h small tall = let wide = pow_mono tall in lt-ltb n (2 ^ h) (omega arith)

@@ -1,5 +1,5 @@
 -- Spans as the dummy maker's nodes.
-use Rattle.std.specs.Prelude.{◌≡◌, ℕ, ◌<◌, ◌≤◌, Bool, true, false, cond, List, [], ◌∷◌, ◌++◌, length, take, Some, None, ◌==◌, slice_index, refl}
+use Rattle.std.specs.Prelude.{◌≡◌, ℕ, ◌<◌, Bool, true, false, cond, List, [], ◌∷◌, ◌++◌, length, Some, None, ◌==◌, slice_index, refl}
 use Rattle.std.proofs.Common.{sym, ap, ap₂, ◌∙◌, ⊎_elim, arith, lit<, lit≤}
 use mathlib.Core.HLevel.{is_prop→PathP}
 use Rattle.std.proofs.Math.Bool.{Bool-set}
@@ -38,14 +38,15 @@ read_whole bs sound whole =
     cond-false (are_broken bs) (Some Broken) _ sound
     ∙ cond-true (aligned (number_at 0 bs) (slice_index bs 4)) (Some (span (number_at 0 bs) (slice_index bs 4))) None whole
 
--- only the first five bytes count
-pub read_front : (bs : List ℕ) → 5 ≤ length bs → read_span (take 5 bs) ≡ read_span bs
-read_front [] h = absurd (omega arith)
-read_front (_ ∷ []) h = absurd (omega arith)
-read_front (_ ∷ _ ∷ []) h = absurd (omega arith)
-read_front (_ ∷ _ ∷ _ ∷ []) h = absurd (omega arith)
-read_front (_ ∷ _ ∷ _ ∷ _ ∷ []) h = absurd (omega arith)
-read_front (a ∷ b ∷ c ∷ d ∷ e ∷ rest) h = refl
+-- what holds of any five elements holds of a list of five
+pub with_five : (P : List ℕ → Type 0) → ((a b c d e : ℕ) → P (a ∷ b ∷ c ∷ d ∷ e ∷ [])) → (bs : List ℕ) → length bs ≡ 5 → P bs
+with_five P holds (a ∷ b ∷ c ∷ d ∷ e ∷ []) long = holds a b c d e
+with_five P holds [] long = absurd (omega arith)
+with_five P holds (_ ∷ []) long = absurd (omega arith)
+with_five P holds (_ ∷ _ ∷ []) long = absurd (omega arith)
+with_five P holds (_ ∷ _ ∷ _ ∷ []) long = absurd (omega arith)
+with_five P holds (_ ∷ _ ∷ _ ∷ _ ∷ []) long = absurd (omega arith)
+with_five P holds (_ ∷ _ ∷ _ ∷ _ ∷ _ ∷ _ ∷ rest) long = absurd (omega arith)
 
 read_put : (x : Span) → read_span (put_span x) ≡ Some x
 read_put Broken = refl
@@ -108,10 +109,5 @@ module _ (a b c d e : ℕ) (x : Span) (found : read_span (a ∷ b ∷ c ∷ d �
       (cases_Bool (are_broken bs))
 
 pub dummy_one_spelling : OneSpelling dummy_meaning
-dummy_one_spelling (a ∷ b ∷ c ∷ d ∷ e ∷ []) x long bytes found = spelled_five a b c d e x found (bytes 0) (bytes 1) (bytes 2) (bytes 3)
-dummy_one_spelling [] x long bytes found = absurd (omega arith)
-dummy_one_spelling (_ ∷ []) x long bytes found = absurd (omega arith)
-dummy_one_spelling (_ ∷ _ ∷ []) x long bytes found = absurd (omega arith)
-dummy_one_spelling (_ ∷ _ ∷ _ ∷ []) x long bytes found = absurd (omega arith)
-dummy_one_spelling (_ ∷ _ ∷ _ ∷ _ ∷ []) x long bytes found = absurd (omega arith)
-dummy_one_spelling (_ ∷ _ ∷ _ ∷ _ ∷ _ ∷ _ ∷ rest) x long bytes found = absurd (omega arith)
+dummy_one_spelling bytes x long each found =
+    with_five (λ bs. ((i : ℕ) → slice_index bs i < 256) → read_span bs ≡ Some x → put_span x ≡ bs) (λ a b c d e small is. spelled_five a b c d e x is (small 0) (small 1) (small 2) (small 3)) bytes long each found

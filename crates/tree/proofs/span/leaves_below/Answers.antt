@@ -1,6 +1,6 @@
 use Rattle.std.proofs.Common.{arith, pow_pos, pow_mono}
 use Rattle.std.proofs.lemmas.Nat.{one_shl}
-use Rattle.tree.proofs.dummy.leaves_below.Goals as goal
+use Rattle.tree.proofs.span.leaves_below.Goals as goal
 
 pub returns : goal.returns
 returns c =
