@@ -1,9 +1,10 @@
 ghost use Rattle.std.specs.Prelude.{◌≡◌, ◌+◌, ◌-◌, ◌^◌, ◌<◌, ◌≤◌, length};
 ghost use Rattle.traversal.specs.Shapes.{draft_plot};
-ghost use Rattle.traversal.specs.Worlds.{world};
+ghost use Rattle.traversal.specs.Worlds.{world_of, SameLoans};
 ghost use Rattle.traversal.specs.Calls.{units, units_in_all, made_so_far, Begun, DraftUnit, WentOn, Stepped, Turned};
 
 use crate::fault::DraftFault;
+use crate::lent::Lent;
 use crate::outcome::Incomplete;
 use crate::plot::{Plot, section_cells};
 use crate::refusal::Refusal;
@@ -50,22 +51,21 @@ impl Draft {
     // missing; answers the leaves and the joins that it made.
     pub fn step<M: Maker, S: Source>(
         &mut self,
-        table: &mut [M::Node],
-        maker: &mut M,
-        source: &mut S,
+        lent: &mut Lent<M, S>,
         budget: u64,
     ) -> Result<(u64, u64), Refusal>
-        ensures { Stepped self.old (world table.old (M.meaning maker.old) (M.meter maker.old) (S.supply source.old)) budget result self.new (world table.new (M.meaning maker.new) (M.meter maker.new) (S.supply source.new)) }
+        ensures stepped { Stepped self.old (world_of M.meaning M.meter S.supply lent.old) budget result self.new (world_of M.meaning M.meter S.supply lent.new) }
+        ensures same_loans { SameLoans lent.old lent.new }
     {
-        if table.len() < self.cells {
+        if lent.table.len() < self.cells {
             return Err(Refusal::Table(self.cells));
         }
         if budget == 0 || self.missing() == 0 {
             return Ok((0, 0));
         }
-        let first = self.unit(table, maker, source)?;
+        let first = self.unit(lent)?;
         let (leaf, join) = first.pair();
-        let (leaves, joins) = self.go_on(table, maker, source, budget - 1);
+        let (leaves, joins) = self.go_on(lent, budget - 1);
         Ok((leaf + leaves, join + joins))
     }
 
@@ -133,32 +133,23 @@ impl Draft {
     }
 
     // One unit.
-    fn unit<M: Maker, S: Source>(
-        &mut self,
-        table: &mut [M::Node],
-        maker: &mut M,
-        source: &mut S,
-    ) -> Result<Made, DraftFault>
-        requires room { self.old.cells ≤ length table.old }
+    fn unit<M: Maker, S: Source>(&mut self, lent: &mut Lent<M, S>) -> Result<Made, DraftFault>
+        requires room { self.old.cells ≤ length lent.old.table.now }
         requires unfinished { units self.old < units_in_all self.old }
-        ensures { DraftUnit self.old (world table.old (M.meaning maker.old) (M.meter maker.old) (S.supply source.old)) result self.new (world table.new (M.meaning maker.new) (M.meter maker.new) (S.supply source.new)) }
+        ensures unit { DraftUnit self.old (world_of M.meaning M.meter S.supply lent.old) result self.new (world_of M.meaning M.meter S.supply lent.new) }
+        ensures same_loans { SameLoans lent.old lent.new }
     {
         let mut hash = self.hash;
-        let made = hash.unit(self.plot(), table, maker, source)?;
+        let made = hash.unit(self.plot(), lent)?;
         self.hash = hash;
         Ok(made)
     }
 
     // Makes units as long as it can, and not more than the budget; answers the leaves and the joins.
-    fn go_on<M: Maker, S: Source>(
-        &mut self,
-        table: &mut [M::Node],
-        maker: &mut M,
-        source: &mut S,
-        budget: u64,
-    ) -> (u64, u64)
-        requires room { self.old.cells ≤ length table.old }
-        ensures { WentOn self.old (world table.old (M.meaning maker.old) (M.meter maker.old) (S.supply source.old)) budget result.0 result.1 self.new (world table.new (M.meaning maker.new) (M.meter maker.new) (S.supply source.new)) }
+    fn go_on<M: Maker, S: Source>(&mut self, lent: &mut Lent<M, S>, budget: u64) -> (u64, u64)
+        requires room { self.old.cells ≤ length lent.old.table.now }
+        ensures went_on { WentOn self.old (world_of M.meaning M.meter S.supply lent.old) budget result.0 result.1 self.new (world_of M.meaning M.meter S.supply lent.new) }
+        ensures same_loans { SameLoans lent.old lent.new }
     {
         let mut leaves = 0;
         let mut joins = 0;
@@ -166,7 +157,7 @@ impl Draft {
             if self.missing() == 0 {
                 return (leaves, joins);
             }
-            let Ok(made) = self.unit(table, maker, source) else {
+            let Ok(made) = self.unit(lent) else {
                 return (leaves, joins);
             };
             let (leaf, join) = made.pair();

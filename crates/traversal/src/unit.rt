@@ -1,12 +1,12 @@
 ghost use Rattle.std.specs.Prelude.{◌≡◌, ◌+◌, ◌-◌, ◌^◌, ◌<◌, ◌≤◌, true, false, length};
 ghost use Rattle.growth.specs.Places.{Room};
 ghost use Rattle.growth.specs.Order.{join_due};
-ghost use Rattle.tree.specs.Supply.{Supply};
 ghost use Rattle.traversal.specs.Plots.{layout, depth, Legal};
-ghost use Rattle.traversal.specs.Worlds.{world};
+ghost use Rattle.traversal.specs.Worlds.{world_of, SameLoans};
 ghost use Rattle.traversal.specs.Units.{pair_of, Standing, Unfinished, Advanced, LeafMade, UnitMade};
 
 use crate::fault::UnitFault;
+use crate::lent::Lent;
 use crate::plot::Plot;
 use crate::treehash::{Made, Treehash};
 use tree::maker::Maker;
@@ -44,22 +44,21 @@ impl Treehash {
     pub(crate) fn unit<M: Maker, S: Source>(
         &mut self,
         plot: Plot,
-        table: &mut [M::Node],
-        maker: &mut M,
-        source: &mut S,
+        lent: &mut Lent<M, S>,
     ) -> Result<Made, UnitFault>
         requires legal { Legal plot }
         requires standing { Standing plot self.old }
         requires unfinished { Unfinished plot self.old }
-        requires room { Room (layout plot) (depth plot) (length table.old) }
+        requires room { Room (layout plot) (depth plot) (length lent.old.table.now) }
         ensures standing { Standing plot self.new }
-        ensures made { UnitMade plot (world table.old (M.meaning maker.old) (M.meter maker.old) (S.supply source.old)) self.old result (world table.new (M.meaning maker.new) (M.meter maker.new) (S.supply source.new)) self.new }
+        ensures made { UnitMade plot (world_of M.meaning M.meter S.supply lent.old) self.old result (world_of M.meaning M.meter S.supply lent.new) self.new }
+        ensures same_loans { SameLoans lent.old lent.new }
     {
         if self.is_join_due() {
-            self.join(plot, table, maker);
+            self.join(plot, lent);
             Ok(Made::Join)
         } else {
-            self.leaf(plot, table, maker, source)?;
+            self.leaf(plot, lent)?;
             Ok(Made::Leaf)
         }
     }
@@ -68,43 +67,43 @@ impl Treehash {
     fn leaf<M: Maker, S: Source>(
         &mut self,
         plot: Plot,
-        table: &mut [M::Node],
-        maker: &mut M,
-        source: &mut S,
+        lent: &mut Lent<M, S>,
     ) -> Result<(), UnitFault>
         requires legal { Legal plot }
         requires standing { Standing plot self.old }
         requires unfinished { Unfinished plot self.old }
-        requires room { Room (layout plot) (depth plot) (length table.old) }
+        requires room { Room (layout plot) (depth plot) (length lent.old.table.now) }
         requires due { join_due self.old.leaves self.old.newest ≡ false }
         ensures standing { Standing plot self.new }
-        ensures made { LeafMade plot (world table.old (M.meaning maker.old) (M.meter maker.old) (S.supply source.old)) self.old result (world table.new (M.meaning maker.new) (M.meter maker.new) (S.supply source.new)) self.new }
+        ensures made { LeafMade plot (world_of M.meaning M.meter S.supply lent.old) self.old result (world_of M.meaning M.meter S.supply lent.new) self.new }
+        ensures same_loans { SameLoans lent.old lent.new }
     {
         let number = self.leaves;
         let mut token = [0; 32];
-        source.token(number, &mut token)?;
-        let node = maker.leaf(number, &token);
-        self.stacked = plot.store(table, self.stacked, 0, number, node);
+        lent.source.token(number, &mut token)?;
+        let node = lent.maker.leaf(number, &token);
+        self.stacked = plot.store(lent.table, self.stacked, 0, number, node);
         self.leaves = number + 1;
         self.newest = 0;
         Ok(())
     }
 
     // Joins the newest node and its left sibling.
-    fn join<M: Maker>(&mut self, plot: Plot, table: &mut [M::Node], maker: &mut M)
+    fn join<M: Maker, S: Source>(&mut self, plot: Plot, lent: &mut Lent<M, S>)
         requires legal { Legal plot }
         requires standing { Standing plot self.old }
-        requires room { Room (layout plot) (depth plot) (length table.old) }
+        requires room { Room (layout plot) (depth plot) (length lent.old.table.now) }
         requires due { join_due self.old.leaves self.old.newest ≡ true }
         ensures standing { Standing plot self.new }
-        ensures made { (s : Supply) → Advanced plot (world table.old (M.meaning maker.old) (M.meter maker.old) s) self.old 0 1 (world table.new (M.meaning maker.new) (M.meter maker.new) s) self.new }
+        ensures made { Advanced plot (world_of M.meaning M.meter S.supply lent.old) self.old 0 1 (world_of M.meaning M.meter S.supply lent.new) self.new }
+        ensures same_loans { SameLoans lent.old lent.new }
     {
         let height = self.newest;
         let index = (self.leaves - 1) >> height;
-        let (right, stacked) = plot.fetch(table, self.stacked, height, index);
-        let (left, stacked) = plot.fetch(table, stacked, height, index - 1);
-        let node = maker.join(left, right);
-        self.stacked = plot.store(table, stacked, height + 1, index / 2, node);
+        let (right, stacked) = plot.fetch(lent.table, self.stacked, height, index);
+        let (left, stacked) = plot.fetch(lent.table, stacked, height, index - 1);
+        let node = lent.maker.join(left, right);
+        self.stacked = plot.store(lent.table, stacked, height + 1, index / 2, node);
         self.newest = height + 1;
         self.joins += 1;
     }

@@ -62,7 +62,7 @@ pub returns : goal.returns
 returns g c =
     let old = c.args.self.now in
     let plot = c.args.plot in
-    let table = c.args.table.now in
+    let table = c.args.lent.now.table.now in
     let p = old.newest in
     let a = newest old.leaves old.newest in
     let (pos, odd, high) = join_index plot old c.requires.standing c.requires.due in
@@ -80,9 +80,10 @@ returns g c =
     let new : Treehash = record { leaves = old.leaves; joins = old.joins + 1; newest = p + 1; stacked = c.store-self.result } in
     record {
       standing = standing_join plot old new c.requires.standing c.requires.due refl refl refl stacked;
-      made = λ s. advanced_join plot c.requires.legal table c.store-self.new.table (g.M.Maker.meaning c.args.maker.now) (g.M.Maker.meaning c.join-node.new.self) (g.M.Maker.meter c.args.maker.now) (g.M.Maker.meter c.join-node.new.self) s old new left right c.join-node.result
+      made = advanced_join plot c.requires.legal table c.store-self.new.table (g.M.Maker.meaning c.args.lent.now.maker.now) (g.M.Maker.meaning c.join-node.new.self) (g.M.Maker.meter c.args.lent.now.maker.now) (g.M.Maker.meter c.join-node.new.self) (g.S.Source.supply c.args.lent.now.source.now) old new left right c.join-node.result
           c.requires.standing c.requires.due c.requires.room
           (λ d. get_or_read table (place (layout plot) p (a - 1)) left (there (a - 1) (omega arith)) read_left d)
           (λ d. get_or_read table (place (layout plot) p a) right (there a in_tree) c.fetch-right.ensures.value d)
           join.value put join.keeps join.counts refl refl refl;
+      same_loans = record { table = refl; maker = refl; source = refl };
     }

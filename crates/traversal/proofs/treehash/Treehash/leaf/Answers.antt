@@ -19,6 +19,7 @@ returns g c =
     let new : Treehash = record { leaves = old.leaves + 1; joins = old.joins; newest = 0; stacked = c.store-self.result } in
     record {
       standing = standing_leaf c.args.plot old new c.requires.standing c.requires.unfinished c.requires.due refl refl refl c.store-self.ensures.stacked;
-      made = advanced_leaf c.args.plot c.requires.legal c.args.table.now c.store-self.new.table (g.M.Maker.meaning c.args.maker.now) (g.M.Maker.meaning c.leaf-node.new.self) (g.M.Maker.meter c.args.maker.now) (g.M.Maker.meter c.leaf-node.new.self) (g.S.Source.supply c.args.source.now) (g.S.Source.supply c.token.new.self) old new c.token.new.out c.leaf-node.result
+      made = advanced_leaf c.args.plot c.requires.legal c.args.lent.now.table.now c.store-self.new.table (g.M.Maker.meaning c.args.lent.now.maker.now) (g.M.Maker.meaning c.leaf-node.new.self) (g.M.Maker.meter c.args.lent.now.maker.now) (g.M.Maker.meter c.leaf-node.new.self) (g.S.Source.supply c.args.lent.now.source.now) (g.S.Source.supply c.token.new.self) old new c.token.new.out c.leaf-node.result
           c.requires.standing c.requires.unfinished c.requires.due c.requires.room gives.0 gives.1 leaf.value c.store-self.ensures.table leaf.keeps leaf.counts c.token.ensures.keeps refl refl refl;
+      same_loans = record { table = refl; maker = refl; source = refl };
     }
