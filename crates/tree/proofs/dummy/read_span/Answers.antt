@@ -2,7 +2,8 @@ use Rattle.std.proofs.Common.{sym, rules, ◌≡◌, ◌∙◌, arith}
 use Rattle.std.specs.Option.{option_map}
 use Rattle.tree.specs.Numbers.{number_at}
 use Rattle.tree.specs.declared.span.Span.TheVariants.{Sound}
-use Rattle.tree.proofs.Intervals.{reads_span, are_broken_as_equal}
+use Rattle.tree.specs.Spanning.{are_broken_as_equal}
+use Rattle.tree.proofs.Intervals.{reads_span}
 use Rattle.tree.proofs.dummy.read_span.Goals as goal
 
 pub returns : goal.returns
