@@ -1,11 +1,10 @@
 -- Intervals of leaf numbers as spans, and five bytes as one.
-use Rattle.std.proofs.Common.{◌≡◌, ℕ, Bool, true, false, ◌&&◌, eqb, List, [], ◌∷◌, length, get_or, Some, None, Option, sym, refl, ap, ap₂, ◌∙◌}
+use Rattle.std.proofs.Common.{◌≡◌, ℕ, true, false, List, get_or, Some, None, Option, sym, ap, ap₂, ◌∙◌}
 use Rattle.std.specs.Option.{MatchOption, option_map, option_map_or}
-use Rattle.std.specs.Cmp.Lexicographic.{pointwise}
 use Rattle.std.proofs.lemmas.Bool.{cond-false}
 use Rattle.tree.specs.Numbers.{number_at, aligned}
 use Rattle.tree.specs.Spans.{span, are_broken, read_span}
-use Rattle.tree.specs.Spanning.{span_sound, span_broken, read_whole, with_five}
+use Rattle.tree.specs.Spanning.{span_sound, span_broken, read_whole}
 use Rattle.tree.specs.declared.span.Interval.{Interval}
 use Rattle.tree.specs.declared.span.Span.TheVariants.{Sound, Broken}
 
@@ -22,15 +21,3 @@ reads_span bs None sound bad = sym (cond-false (are_broken bs) (Some Broken) _ s
 reads_span bs (Some a) sound is =
     let whole : aligned (number_at 0 bs) (get_or bs 4 0) ≡ true = ap₂ aligned (sym is.0) (sym is.1) ∙ a.whole in
     ap Some (span_is (number_at 0 bs) (get_or bs 4 0) (Some a) is) ∙ sym (read_whole bs sound whole)
-
--- the five comparisons with 255, from the left as from the right
-from_the_left : (p q r s t : Bool) → (p && (q && (r && (s && (t && true))))) ≡ (p && q && r && s && t)
-from_the_left false q r s t = refl
-from_the_left true false r s t = refl
-from_the_left true true false s t = refl
-from_the_left true true true false t = refl
-from_the_left true true true true false = refl
-from_the_left true true true true true = refl
-
-pub are_broken_as_equal : (bs : List ℕ) → length bs ≡ 5 → pointwise eqb bs (255 ∷ 255 ∷ 255 ∷ 255 ∷ 255 ∷ []) ≡ are_broken bs
-are_broken_as_equal = with_five (λ bs. pointwise eqb bs (255 ∷ 255 ∷ 255 ∷ 255 ∷ 255 ∷ []) ≡ are_broken bs) (λ a b c d e. from_the_left (eqb a 255) (eqb b 255) (eqb c 255) (eqb d 255) (eqb e 255))

@@ -21,6 +21,7 @@ impl Counter {
         }
     }
 
+    // Two calls and not one for any counts, since `count_leaf()` says more than `count(1, 0)`.
     pub fn count_leaf(&mut self)
         ensures { metered self.new ≡ after 1 0 (metered self.old) }
     {

@@ -16,6 +16,9 @@ use hashing::digest;
 // A node's bytes.
 pub(crate) const WIDTH: usize = 32;
 
+// The bytes of two nodes.
+const PAIR: usize = 2 * WIDTH;
+
 // The sealed maker: plain SHA-256, of the token for a leaf and of both children for a join.
 #[derive(Drop)]
 pub struct Sealed {
@@ -56,8 +59,7 @@ impl Maker for Sealed {
         self.counter.counts()
     }
 
-    fn leaf(&mut self, number: u32, token: &[u8]) -> Digest {
-        let _ = number;
+    fn leaf(&mut self, _number: u32, token: &[u8]) -> Digest {
         self.counter.count_leaf();
         Digest {
             bytes: digest(token),
@@ -67,7 +69,7 @@ impl Maker for Sealed {
     fn join(&mut self, left: Digest, right: Digest) -> Digest {
         self.counter.count_join();
         Digest {
-            bytes: digest(&in_row::<64>(&left.bytes, &right.bytes)),
+            bytes: digest(&in_row::<PAIR>(&left.bytes, &right.bytes)),
         }
     }
 

@@ -10,6 +10,9 @@ use hashing::digest;
 // How many bytes a seed has.
 const SEED: usize = 32;
 
+// How many bytes a token is the hash of: the seed and a number.
+const SEEDED: usize = SEED + 4;
+
 // How many tokens a seed yields.
 const TOKENS: u32 = 1 << 20;
 
@@ -56,7 +59,7 @@ impl Source for SeedSource {
     fn token(&mut self, number: u32, out: &mut [u8; 32]) -> Result<(), Missing> {
         self.look_up(number)
             .map_err(|cause| Missing { number, cause })?;
-        *out = digest(&in_row::<36>(&self.seed, &number.to_be_bytes()));
+        *out = digest(&in_row::<SEEDED>(&self.seed, &number.to_be_bytes()));
         Ok(())
     }
 }

@@ -1,16 +1,10 @@
-use Rattle.std.proofs.Common.{sym, rules, ◌≡◌, ◌∙◌, Some, arith}
-use Rattle.std.proofs.lemmas.Bool.{cond-true}
+use Rattle.std.proofs.Common.{sym, rules, ◌≡◌, ◌∙◌, arith}
 use Rattle.std.specs.Option.{option_map}
 use Rattle.tree.specs.Numbers.{number_at}
-use Rattle.tree.specs.Spans.{are_broken}
-use Rattle.tree.specs.declared.span.Span.TheVariants.{Sound, Broken}
-use Rattle.tree.proofs.Intervals.{reads_span, are_broken_as_equal}
+use Rattle.tree.specs.declared.span.Span.TheVariants.{Sound}
+use Rattle.tree.specs.Spanning.{are_broken_as_equal}
+use Rattle.tree.proofs.Intervals.{reads_span}
 use Rattle.tree.proofs.dummy.read_span.Goals as goal
-
-pub returns-then-eq : goal.returns-then-eq
-returns-then-eq c =
-    let bs = c.args.bytes.now in
-    sym (cond-true (are_broken bs) (Some Broken) _ (sym (are_broken_as_equal bs c.told-bytes) ∙ sym c.if-eq.ensures))
 
 pub returns : goal.returns
 returns c =
