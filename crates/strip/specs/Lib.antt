@@ -3,5 +3,4 @@ pub mod Refusals
 pub mod Calls
 pub mod Sections
 pub mod Hex
-pub mod Foreign
 pub mod Figures

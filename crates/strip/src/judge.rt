@@ -1,7 +1,7 @@
 ghost use Rattle.std.specs.Prelude.{◌≡◌};
 ghost use Rattle.tree.specs.Digests.{sealed_meaning};
 ghost use Rattle.tree.specs.Spans.{dummy_meaning};
-ghost use Rattle.strip.specs.Calls.{Judges, JudgesByKind, AcceptsRoot};
+ghost use Rattle.strip.specs.Calls.{Judges, JudgesByKind, AcceptsRoot, CountsJudging};
 
 use crate::check::check;
 use crate::parse::parse;
@@ -22,14 +22,18 @@ pub fn judge(root: &[u8], bytes: &[u8]) -> Result<bool, Refusal>
     ensures dummy_trees { AcceptsRoot dummy_meaning root.now bytes.now result }
 {
     match bytes {
-        [_, DUMMY_KIND, ..] => judge_by(&mut Dummy::new(), root, bytes),
-        _ => judge_by(&mut Sealed::new(), root, bytes),
+        [_, DUMMY_KIND, ..] => judge_with(&mut Dummy::new(), root, bytes),
+        _ => judge_with(&mut Sealed::new(), root, bytes),
     }
 }
 
-// The same with a given maker.
-pub(crate) fn judge_by<M: Maker>(maker: &mut M, root: &[u8], bytes: &[u8]) -> Result<bool, Refusal>
-    ensures { Judges (M.meaning maker.old) root.now bytes.now result }
+// Whether a strip of a given maker leads to a root, both given as bytes. Makes a leaf and a join for each
+// node of the path, unless it refuses the strip or the root's bytes are no node.
+pub fn judge_with<M: Maker>(maker: &mut M, root: &[u8], bytes: &[u8]) -> Result<bool, Refusal>
+    ensures answer { Judges (M.meaning maker.old) root.now bytes.now result }
+    ensures full_tree { AcceptsRoot (M.meaning maker.old) root.now bytes.now result }
+    ensures keeps { M.meaning maker.new ≡ M.meaning maker.old }
+    ensures counts { CountsJudging (M.meaning maker.old) root.now bytes.now result (M.meter maker.old) (M.meter maker.new) }
 {
     parse(maker, bytes)?;
     let width = maker.width();

@@ -2,7 +2,7 @@ ghost use Rattle.std.specs.Prelude.{◌≡◌, ◌+◌, ◌*◌, ◌≤◌, ◌+
 ghost use Rattle.tree.specs.Path.{path_bytes};
 ghost use Rattle.strip.specs.Calls.{strip_length, write_refusal, Writes, Refuses, Appends};
 
-use crate::layout::{HEAD_COUNT, NODES_PLACE, TOKEN_COUNT, TOKEN_LENGTH};
+use crate::layout::{HEAD_COUNT, TOKEN_COUNT, TOKEN_LENGTH, strip_length};
 use crate::refusal::Refusal;
 use tree::height::{has_leaf, is_height};
 use tree::maker::Maker;
@@ -54,7 +54,7 @@ fn room<M: Maker>(
     if token < TOKEN_LENGTH {
         return Err(Refusal::Short(TOKEN_LENGTH));
     }
-    let needed = NODES_PLACE + count * maker.width();
+    let needed = strip_length(height, maker.width());
     if out < needed {
         return Err(Refusal::Short(needed));
     }

@@ -1,18 +1,37 @@
-//! The three calls for C: those of `strip::foreign`, under the names that `include/strips.h` declares.
+//! The three calls for C, under the names that `include/strips.h` declares.
 
 #![tactic(auto)]
 
 ghost use Rattle.std.specs.Prelude.{◌≡◌};
-ghost use Rattle.strip.specs.Foreign.{AcceptsSealed, ChecksSealed, length_or_0, size_or_0};
+ghost use Rattle.strip_c.specs.Foreign.{AcceptsSealed, ChecksSealed, length_or_0, size_or_0};
 
-use strip::foreign;
+use strip::judge::judge_with;
+use strip::layout::strip_length;
+use strip::refusal::Refusal;
+use tree::geometry::size;
+use tree::height::is_height;
+use tree::sealed::Sealed;
+
+// The kinds of strips, and the width of a node of each.
+const SEALED_KIND: u32 = 1;
+
+const SEALED_WIDTH: usize = 32;
+
+const DUMMY_KIND: u32 = 2;
+
+const DUMMY_WIDTH: usize = 5;
+
+// What a check answers. The C interface fixes these numbers and the 0 of the two lengths.
+const YES: u32 = 0;
+
+const NO: u32 = 100;
 
 // How many cells the table of a traversal has; 0 for heights that no tree or no subtree has.
 #[unsafe(no_mangle)]
 pub extern "C" fn strips_table_size(height: u32, subtree: u32) -> u64
     ensures { result ≡ size_or_0 height subtree }
 {
-    foreign::strips_table_size(height, subtree)
+    size(height, subtree).map_or(0, |cells| cells as u64)
 }
 
 // How many bytes a strip has; 0 for a kind or a height that no strip has.
@@ -20,7 +39,15 @@ pub extern "C" fn strips_table_size(height: u32, subtree: u32) -> u64
 pub extern "C" fn strips_strip_length(kind: u32, height: u32) -> u64
     ensures { result ≡ length_or_0 kind height }
 {
-    foreign::strips_strip_length(kind, height)
+    if !is_height(height) {
+        return 0;
+    }
+    let width = match kind {
+        SEALED_KIND => SEALED_WIDTH,
+        DUMMY_KIND => DUMMY_WIDTH,
+        _ => return 0,
+    };
+    strip_length(height, width) as u64
 }
 
 // Whether a sealed strip leads to a root of 32 bytes: 0 for yes and 100 for no, or the number of the
@@ -30,5 +57,12 @@ pub extern "C" fn strips_check(strip: &[u8], root: &[u8]) -> u32
     ensures answer { ChecksSealed strip.now root.now result }
     ensures full_tree { AcceptsSealed strip.now root.now result }
 {
-    foreign::strips_check(strip, root)
+    if root.len() != SEALED_WIDTH {
+        return u32::from(Refusal::Short(SEALED_WIDTH).number());
+    }
+    match judge_with(&mut Sealed::new(), root, strip) {
+        Ok(true) => YES,
+        Ok(false) => NO,
+        Err(refusal) => u32::from(refusal.number()),
+    }
 }

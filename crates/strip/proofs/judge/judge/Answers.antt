@@ -5,10 +5,10 @@ use Rattle.strip.proofs.judge.judge.Goals as goal
 
 pub returns-in-2 : goal.returns-in-2
 returns-in-2 c =
-    let judged : JudgesByKind c.args.root.now c.args.bytes.now c.judge_by.result = search rules in
-    record { answer = judged; sealed_trees = accepts_sealed c.args.root.now c.args.bytes.now c.judge_by.result judged; dummy_trees = accepts_dummy c.args.root.now c.args.bytes.now c.judge_by.result judged }
+    let judged : JudgesByKind c.args.root.now c.args.bytes.now c.judge_with.result = search rules in
+    record { answer = judged; sealed_trees = accepts_sealed c.args.root.now c.args.bytes.now c.judge_with.result judged; dummy_trees = accepts_dummy c.args.root.now c.args.bytes.now c.judge_with.result judged }
 
 pub returns-in_default : goal.returns-in_default
 returns-in_default c =
-    let judged : JudgesByKind c.args.root.now c.args.bytes.now c.judge_by-in_default.result = search rules in
-    record { answer = judged; sealed_trees = accepts_sealed c.args.root.now c.args.bytes.now c.judge_by-in_default.result judged; dummy_trees = accepts_dummy c.args.root.now c.args.bytes.now c.judge_by-in_default.result judged }
+    let judged : JudgesByKind c.args.root.now c.args.bytes.now c.judge_with-in_default.result = search rules in
+    record { answer = judged; sealed_trees = accepts_sealed c.args.root.now c.args.bytes.now c.judge_with-in_default.result judged; dummy_trees = accepts_dummy c.args.root.now c.args.bytes.now c.judge_with-in_default.result judged }
