@@ -4,15 +4,14 @@ ghost use Rattle.tree.specs.Spans.{dummy_meaning};
 ghost use Rattle.strip.specs.Calls.{Judges, JudgesByKind, AcceptsRoot, CountsJudging};
 
 use crate::check::check;
+use crate::layout::KIND_PLACE;
 use crate::parse::parse;
 use crate::refusal::Refusal;
 use tree::dummy::Dummy;
 use tree::fold::front_node;
+use tree::kind::Kind;
 use tree::maker::Maker;
 use tree::sealed::Sealed;
-
-// The kind byte of the dummy maker's strips.
-const DUMMY_KIND: u8 = 2;
 
 // Whether a strip leads to a root, both given as bytes. The strip's kind byte picks the maker; a kind
 // that no maker has is refused as any wrong byte is.
@@ -21,9 +20,13 @@ pub fn judge(root: &[u8], bytes: &[u8]) -> Result<bool, Refusal>
     ensures sealed_trees { AcceptsRoot sealed_meaning root.now bytes.now result }
     ensures dummy_trees { AcceptsRoot dummy_meaning root.now bytes.now result }
 {
-    match bytes {
-        [_, DUMMY_KIND, ..] => judge_with(&mut Dummy::new(), root, bytes),
-        _ => judge_with(&mut Sealed::new(), root, bytes),
+    let kind = bytes
+        .get(KIND_PLACE)
+        .and_then(|byte| Kind::try_from(*byte).ok());
+    match kind {
+        Some(Kind::Dummy) => judge_with(&mut Dummy::new(), root, bytes),
+        // A byte that names no kind is wrong to any maker.
+        Some(Kind::Sealed) | None => judge_with(&mut Sealed::new(), root, bytes),
     }
 }
 

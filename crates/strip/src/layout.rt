@@ -1,5 +1,4 @@
-ghost use Rattle.std.specs.Prelude.{◌≡◌, ◌+◌, ◌*◌, ◌≤◌, true};
-ghost use Rattle.tree.specs.Numbers.{legal_height};
+ghost use Rattle.std.specs.Prelude.{◌≡◌, ◌+◌, ◌*◌, ◌≤◌};
 
 // The count bytes of a strip's first two sections, and the length of a token.
 pub const HEAD_COUNT: u8 = 6;
@@ -23,8 +22,7 @@ pub const NODES_PLACE: usize = 41;
 
 // How many bytes a strip has in a tree of this height, where a node has so many bytes.
 pub fn strip_length(height: u32, width: usize) -> usize
-    requires height { legal_height height ≡ true }
-    requires width { width ≤ 32 }
+    requires { width ≤ 32 }
     ensures { result ≡ 41 + height * width }
 {
     NODES_PLACE + height as usize * width

@@ -2,13 +2,15 @@ use Rattle.std.proofs.Common.{rules}
 use Rattle.strip.specs.Calls.{JudgesByKind}
 use Rattle.strip.proofs.Leading.{accepts_sealed, accepts_dummy}
 use Rattle.strip.proofs.judge.judge.Goals as goal
+use Rattle.strip.proofs.judge.judge.Goals.{in-Some+in-Sealed-1, in-None-1}
 
-pub returns-in-2 : goal.returns-in-2
-returns-in-2 c =
+pub returns-in-Some-Dummy : goal.returns-in-Some-Dummy
+returns-in-Some-Dummy c =
     let judged : JudgesByKind c.args.root.now c.args.bytes.now c.judge_with.result = search rules in
     record { answer = judged; sealed_trees = accepts_sealed c.args.root.now c.args.bytes.now c.judge_with.result judged; dummy_trees = accepts_dummy c.args.root.now c.args.bytes.now c.judge_with.result judged }
 
-pub returns-in_default : goal.returns-in_default
-returns-in_default c =
-    let judged : JudgesByKind c.args.root.now c.args.bytes.now c.judge_with-in_default.result = search rules in
-    record { answer = judged; sealed_trees = accepts_sealed c.args.root.now c.args.bytes.now c.judge_with-in_default.result judged; dummy_trees = accepts_dummy c.args.root.now c.args.bytes.now c.judge_with-in_default.result judged }
+pub returns-in-Some-Sealed : goal.returns-in-Some-Sealed
+returns-in-Some-Sealed c =
+    let judged : JudgesByKind c.args.root.now c.args.bytes.now c.judge_with-in-Some-Sealed.result =
+      elim c.in-Some-Sealed-1.branch [ in-Some+in-Sealed-1 w ↦ search rules | in-None-1 w ↦ search rules ] in
+    record { answer = judged; sealed_trees = accepts_sealed c.args.root.now c.args.bytes.now c.judge_with-in-Some-Sealed.result judged; dummy_trees = accepts_dummy c.args.root.now c.args.bytes.now c.judge_with-in-Some-Sealed.result judged }
