@@ -1,10 +1,11 @@
-ghost use Rattle.std.specs.Prelude.{◌≡◌};
+ghost use Rattle.std.specs.Prelude.{◌≡◌, ◌≢◌, IfSome, IsNone, slice_index};
+ghost use Rattle.tree.specs.Kinds.{kind_byte};
+ghost use Rattle.tree.specs.declared.kind.Kind.{Kind};
 ghost use Rattle.tree.specs.Digests.{sealed_meaning};
 ghost use Rattle.tree.specs.Spans.{dummy_meaning};
 ghost use Rattle.strip.specs.Calls.{Judges, JudgesByKind, AcceptsRoot, CountsJudging};
 
 use crate::check::check;
-use crate::layout::KIND_PLACE;
 use crate::parse::parse;
 use crate::refusal::Refusal;
 use tree::dummy::Dummy;
@@ -20,13 +21,21 @@ pub fn judge(root: &[u8], bytes: &[u8]) -> Result<bool, Refusal>
     ensures sealed_trees { AcceptsRoot sealed_meaning root.now bytes.now result }
     ensures dummy_trees { AcceptsRoot dummy_meaning root.now bytes.now result }
 {
-    let kind = bytes
-        .get(KIND_PLACE)
-        .and_then(|byte| Kind::try_from(*byte).ok());
-    match kind {
+    match kind_in(bytes) {
         Some(Kind::Dummy) => judge_with(&mut Dummy::new(), root, bytes),
         // A byte that names no kind is wrong to any maker.
         Some(Kind::Sealed) | None => judge_with(&mut Sealed::new(), root, bytes),
+    }
+}
+
+// The kind that a strip's kind byte names, if it names one.
+fn kind_in(bytes: &[u8]) -> Option<Kind>
+    ensures named { IfSome result (λ kind. kind_byte kind ≡ slice_index bytes.now 1) }
+    ensures none { IsNone result → (kind : Kind) → kind_byte kind ≢ slice_index bytes.now 1 }
+{
+    match bytes {
+        [_, byte, ..] => Kind::try_from(*byte).ok(),
+        _ => None,
     }
 }
 
