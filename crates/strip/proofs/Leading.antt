@@ -23,12 +23,14 @@ use Rattle.strip.proofs.Written.{holds, kind_at}
 
 module _ {N : Type 0} (m : Meaning N) (lawful : Lawful m) (bs : List ℕ) where
   -- the path's bytes are nodes from end to end
-  pub path_nodes_in : Faultless m bs → path_nodes m (path_in bs) ≡ nodes_in m bs
-  path_nodes_in ok =
-      let H : ℕ = height_in bs in
+  pub path_chunks : Faultless m bs → length (path_in bs) / m.width ≡ height_in bs
+  path_chunks ok =
       let size = ok.size in
-      let long : length (path_in bs) ≡ H * m.width + 0 = simp length-drop (omega arith) in
-      ap (λ k. nodes_of m k (path_in bs)) (ap (λ k. k / m.width) long ∙ div-mul-add H m.width 0 lawful.at_least)
+      let long : length (path_in bs) ≡ height_in bs * m.width + 0 = simp length-drop (omega arith) in
+      ap (λ k. k / m.width) long ∙ div-mul-add (height_in bs) m.width 0 lawful.at_least
+
+  pub path_nodes_in : Faultless m bs → path_nodes m (path_in bs) ≡ nodes_in m bs
+  path_nodes_in ok = ap (λ k. nodes_of m k (path_in bs)) (path_chunks ok)
 
   pub folded_in : Faultless m bs → (n : ℕ) (x : N) → folded m n x (path_in bs) ≡ Some (leads_to m.join n x (nodes_in m bs))
   folded_in ok n x =

@@ -2,10 +2,11 @@
 use Rattle.std.proofs.Common.{◌≡◌, ℕ, suc, ◌+◌, ◌-◌, ◌*◌, ◌<◌, ◌≤◌, min, Bool, true, false, cond, ltb, List, [], ◌∷◌, ◌++◌, length, take, drop, is_some, Some, None, Option, sym, refl, ap, ◌∙◌, ap₂, subst, ⊎_elim, le_refl, add-mul, one-mul, arith, length-append, length-drop}
 use native.Mathlib.Nat.{sub-zero}
 use Rattle.std.proofs.lemmas.Bool.{cond-true, cond-false, lt-ltb, le-ltb, le-leb, lt-leb, cases_lt}
-use Rattle.std.proofs.lemmas.List.{drop-drop, drop_at, take_at, take_all}
+use Rattle.std.proofs.lemmas.List.{drop-drop}
 use Rattle.std.proofs.lemmas.Nat.{mul-le}
 use Rattle.tree.specs.Meaning.{Meaning}
 use Rattle.tree.specs.Path.{front_node}
+use Rattle.strip.proofs.Chunks.{chunk_fits, chunk_behind, chunk_reads}
 use Rattle.strip.specs.declared.refusal.Section.TheVariants.{Path}
 use Rattle.strip.specs.declared.refusal.Fault.{Fault}
 use Rattle.strip.specs.Format.{Rule, fault, first_broken, height_in, head_rules, token_rules, count_rules, node_rules, fault_in}
@@ -89,26 +90,17 @@ module _ (bs : List ℕ) where
       ends_surplus done some = let s = size in sym (last done) ∙ rule_broken _ [] so_far.within (lt-leb (length bs) p (omega arith))
 
     -- a node that came as the next chunk of what is left
-    module _ {i : ℕ} {rest : List ℕ} (so_far : Passed i (41 + i * m.width) rest) (node later : List ℕ) (split : rest ≡ node ++ later) (size : length node ≡ m.width) where
-      front : take m.width rest ≡ node
-      front = ap (take m.width) split ∙ take_at node later m.width size
-
-      reached : m.width ≤ length rest
-      reached = let long = ap length split ∙ length-append node later in omega arith
-
-      read : front_node m node ≡ m.read (take m.width rest)
-      read =
-          cond-false (ltb (length node) m.width) None (m.read (take m.width node)) (le-ltb _ _ (omega arith))
-          ∙ ap m.read (take_all m.width node (omega arith) ∙ sym front)
+    module _ {i : ℕ} {rest : List ℕ} (so_far : Passed i (41 + i * m.width) rest) (node later : List ℕ) (split : rest ≡ node ++ later) (fills : length node ≡ m.width) where
+      read : is_some (m.read (take m.width rest)) ≡ is_some (front_node m node)
+      read = ap is_some (sym (chunk_reads m rest node later split fills))
 
       pub passed_chunk : i < H → is_some (front_node m node) ≡ true → Passed (i + 1) (41 + (i + 1) * m.width) later
       passed_chunk lt e =
           let place : 41 + i * m.width + m.width ≡ 41 + (i + 1) * m.width = simp (add-mul, one-mul) (omega arith) in
-          let behind = ap (drop m.width) split ∙ drop_at node later m.width size in
-          subst (λ p. Passed (i + 1) p later) place (subst (λ l. Passed (i + 1) (41 + i * m.width + m.width) l) behind (passed_more so_far lt reached (ap is_some (sym read) ∙ e)))
+          subst (λ p. Passed (i + 1) p later) place (subst (λ l. Passed (i + 1) (41 + i * m.width + m.width) l) (chunk_behind m rest node later split fills) (passed_more so_far lt (chunk_fits m rest node later split fills) (read ∙ e)))
 
       pub chunk_none : i < H → is_some (front_node m node) ≡ false → first_broken bs (node_rules m bs 41 H) ≡ Some (fault (41 + i * m.width) Path)
-      chunk_none lt e = stops_none so_far lt reached (ap is_some (sym read) ∙ e)
+      chunk_none lt e = stops_none so_far lt (chunk_fits m rest node later split fills) (read ∙ e)
 
     -- when all H nodes were passed, or too few bytes are left for the next
     module _ {i : ℕ} {rest : List ℕ} (so_far : Passed i (41 + i * m.width) rest) (upto : i ≤ H) (over : i < H → length rest < m.width) where
