@@ -21,12 +21,13 @@ pub fn write<M: Maker>(
 {
     let needed = room(maker, height, number, path.len(), token.len(), out.len())?;
     let count = height as u8;
-    let at = append(out, 0, &[HEAD_COUNT, maker.kind(), count]);
-    let at = append(out, at, &number.to_be_bytes());
-    let at = append(out, at, &[TOKEN_COUNT]);
-    let at = append(out, at, &token[0..TOKEN_LENGTH]);
-    let at = append(out, at, &[count]);
-    put_path(maker, &path[0..height as usize], out, at);
+    let mut writer = Writer { out, place: 0 };
+    writer.put(&[HEAD_COUNT, maker.kind(), count]);
+    writer.put(&number.to_be_bytes());
+    writer.put(&[TOKEN_COUNT]);
+    writer.put(&token[..TOKEN_LENGTH]);
+    writer.put(&[count]);
+    writer.put_path(maker, &path[..height as usize]);
     Ok(needed)
 }
 
@@ -61,33 +62,41 @@ fn room<M: Maker>(
     Ok(needed)
 }
 
-// Puts bytes at a place of `out`; answers the place after them.
-fn append(out: &mut [u8], at: usize, bytes: &[u8]) -> usize
-    requires { at + length bytes.now ≤ length out.old }
-    ensures { Appends out.old at bytes.now out.new result }
-{
-    let end = at + bytes.len();
-    out[at..end].copy_from_slice(bytes);
-    end
+// Puts pieces into `out` one after another; the next goes to `place`.
+#[derive(Drop)]
+struct Writer<'a> {
+    out: &'a mut [u8],
+    place: usize,
 }
 
-// Puts the nodes of a path at a place of `out`, one after another.
-fn put_path<M: Maker>(maker: &M, path: &[M::Node], out: &mut [u8], at: usize) -> usize
-    requires { at + length path.now * (M.meaning maker.now).width ≤ length out.old }
-    ensures { Appends out.old at (path_bytes (M.meaning maker.now) path.now) out.new result }
-{
-    let mut end = at;
-    for node in path {
-        end = put_node(maker, *node, out, end);
+impl Writer<'_> {
+    fn put(&mut self, bytes: &[u8])
+        requires { self.old.place + length bytes.now ≤ length self.old.out.now }
+        ensures appends { Appends self.old.out.now self.old.place bytes.now self.new.out.now self.new.place }
+        ensures same_reference { self.new.out.ghost_name ≡ self.old.out.ghost_name }
+    {
+        let end = self.place + bytes.len();
+        self.out[self.place..end].copy_from_slice(bytes);
+        self.place = end;
     }
-    end
-}
 
-fn put_node<M: Maker>(maker: &M, node: M::Node, out: &mut [u8], at: usize) -> usize
-    requires { at + (M.meaning maker.now).width ≤ length out.old }
-    ensures { Appends out.old at ((M.meaning maker.now).put node) out.new result }
-{
-    let end = at + maker.width();
-    let _ = maker.put(node, &mut out[at..end]);
-    end
+    fn put_node<M: Maker>(&mut self, maker: &M, node: M::Node)
+        requires { self.old.place + (M.meaning maker.now).width ≤ length self.old.out.now }
+        ensures appends { Appends self.old.out.now self.old.place ((M.meaning maker.now).put node) self.new.out.now self.new.place }
+        ensures same_reference { self.new.out.ghost_name ≡ self.old.out.ghost_name }
+    {
+        let end = self.place + maker.width();
+        let _ = maker.put(node, &mut self.out[self.place..end]);
+        self.place = end;
+    }
+
+    fn put_path<M: Maker>(&mut self, maker: &M, path: &[M::Node])
+        requires { self.old.place + length path.now * (M.meaning maker.now).width ≤ length self.old.out.now }
+        ensures appends { Appends self.old.out.now self.old.place (path_bytes (M.meaning maker.now) path.now) self.new.out.now self.new.place }
+        ensures same_reference { self.new.out.ghost_name ≡ self.old.out.ghost_name }
+    {
+        for node in path {
+            self.put_node(maker, *node);
+        }
+    }
 }
