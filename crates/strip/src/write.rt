@@ -1,6 +1,6 @@
 ghost use Rattle.std.specs.Prelude.{◌≡◌, ◌+◌, ◌*◌, ◌≤◌, ◌++◌, length};
 ghost use Rattle.tree.specs.Path.{path_bytes};
-ghost use Rattle.strip.specs.Calls.{strip_length, write_refusal, Writes, Refuses, Appends};
+ghost use Rattle.strip.specs.Calls.{strip_length, write_refusal, Writes, Refuses};
 
 use crate::layout::{HEAD_COUNT, TOKEN_COUNT, TOKEN_LENGTH, strip_length};
 use crate::refusal::Refusal;
@@ -21,13 +21,15 @@ pub fn write<M: Maker>(
 {
     let needed = room(maker, height, number, path.len(), token.len(), out.len())?;
     let count = height as u8;
+    let path = &path[..height as usize];
+    let token = &token[..TOKEN_LENGTH];
     let mut writer = Writer { out, place: 0 };
     writer.put(&[HEAD_COUNT, maker.kind(), count]);
     writer.put(&number.to_be_bytes());
     writer.put(&[TOKEN_COUNT]);
-    writer.put(&token[..TOKEN_LENGTH]);
+    writer.put(token);
     writer.put(&[count]);
-    writer.put_path(maker, &path[..height as usize]);
+    writer.put_path(maker, path);
     Ok(needed)
 }
 
@@ -70,10 +72,11 @@ struct Writer<'a> {
 }
 
 impl Writer<'_> {
+    ghost use Rattle.strip.specs.Writing.{Puts};
+
     fn put(&mut self, bytes: &[u8])
         requires { self.old.place + length bytes.now ≤ length self.old.out.now }
-        ensures appends { Appends self.old.out.now self.old.place bytes.now self.new.out.now self.new.place }
-        ensures same_reference { self.new.out.ghost_name ≡ self.old.out.ghost_name }
+        ensures { Puts self.old bytes.now self.new }
     {
         let end = self.place + bytes.len();
         self.out[self.place..end].copy_from_slice(bytes);
@@ -82,8 +85,7 @@ impl Writer<'_> {
 
     fn put_node<M: Maker>(&mut self, maker: &M, node: M::Node)
         requires { self.old.place + (M.meaning maker.now).width ≤ length self.old.out.now }
-        ensures appends { Appends self.old.out.now self.old.place ((M.meaning maker.now).put node) self.new.out.now self.new.place }
-        ensures same_reference { self.new.out.ghost_name ≡ self.old.out.ghost_name }
+        ensures { Puts self.old ((M.meaning maker.now).put node) self.new }
     {
         let end = self.place + maker.width();
         let _ = maker.put(node, &mut self.out[self.place..end]);
@@ -92,8 +94,7 @@ impl Writer<'_> {
 
     fn put_path<M: Maker>(&mut self, maker: &M, path: &[M::Node])
         requires { self.old.place + length path.now * (M.meaning maker.now).width ≤ length self.old.out.now }
-        ensures appends { Appends self.old.out.now self.old.place (path_bytes (M.meaning maker.now) path.now) self.new.out.now self.new.place }
-        ensures same_reference { self.new.out.ghost_name ≡ self.old.out.ghost_name }
+        ensures { Puts self.old (path_bytes (M.meaning maker.now) path.now) self.new }
     {
         for node in path {
             self.put_node(maker, *node);
