@@ -2,7 +2,9 @@
 
 #![tactic(auto)]
 
-ghost use Rattle.std.specs.Prelude.{◌≡◌};
+ghost use Rattle.std.specs.Prelude.{◌≡◌, ◌≢◌, IfSome, IsNone};
+ghost use Rattle.tree.specs.Kinds.{kind_byte};
+ghost use Rattle.tree.specs.declared.kind.Kind.{Kind};
 ghost use Rattle.strip_c.specs.Foreign.{AcceptsSealed, ChecksSealed, length_or_0, size_or_0};
 
 use strip::judge::judge_with;
@@ -10,16 +12,8 @@ use strip::layout::strip_length;
 use strip::refusal::Refusal;
 use tree::geometry::size;
 use tree::height::is_height;
+use tree::kind::Kind;
 use tree::sealed::Sealed;
-
-// The kinds of strips, and the width of a node of each.
-const SEALED_KIND: u32 = 1;
-
-const SEALED_WIDTH: usize = 32;
-
-const DUMMY_KIND: u32 = 2;
-
-const DUMMY_WIDTH: usize = 5;
 
 // What a check answers. The C interface fixes these numbers and the 0 of the two lengths.
 const YES: u32 = 0;
@@ -39,15 +33,18 @@ pub extern "C" fn strips_table_size(height: u32, subtree: u32) -> u64
 pub extern "C" fn strips_strip_length(kind: u32, height: u32) -> u64
     ensures { result ≡ length_or_0 kind height }
 {
-    if !is_height(height) {
-        return 0;
+    match kind_of(kind) {
+        Some(kind) if is_height(height) => strip_length(height, kind.width()) as u64,
+        _ => 0,
     }
-    let width = match kind {
-        SEALED_KIND => SEALED_WIDTH,
-        DUMMY_KIND => DUMMY_WIDTH,
-        _ => return 0,
-    };
-    strip_length(height, width) as u64
+}
+
+// The kind of a number, if it is one's.
+fn kind_of(number: u32) -> Option<Kind>
+    ensures named { IfSome result (λ kind. kind_byte kind ≡ number) }
+    ensures none { IsNone result → (kind : Kind) → kind_byte kind ≢ number }
+{
+    Kind::try_from(u8::try_from(number).ok()?).ok()
 }
 
 // Whether a sealed strip leads to a root of 32 bytes: 0 for yes and 100 for no, or the number of the
@@ -57,8 +54,9 @@ pub extern "C" fn strips_check(strip: &[u8], root: &[u8]) -> u32
     ensures answer { ChecksSealed strip.now root.now result }
     ensures full_tree { AcceptsSealed strip.now root.now result }
 {
-    if root.len() != SEALED_WIDTH {
-        return u32::from(Refusal::Short(SEALED_WIDTH).number());
+    let width = Kind::Sealed.width();
+    if root.len() != width {
+        return u32::from(Refusal::Short(width).number());
     }
     match judge_with(&mut Sealed::new(), root, strip) {
         Ok(true) => YES,

@@ -1,38 +1,31 @@
-use Rattle.std.proofs.Common.{◌≡◌, ◌≤◌, ℕ, List, ◌+◌, ◌*◌, length, take, sym, ap, ◌∙◌, arith, rules}
+use Rattle.std.proofs.Common.{ℕ, ◌*◌, length, take, sym, ap, ◌∙◌, arith, rules}
 use Rattle.std.proofs.lemmas.List.{length-take-le}
-use Rattle.std.proofs.lemmas.Bool.{leb-true}
-use Rattle.strip.specs.Format.{strip_bytes}
-use Rattle.strip.specs.Calls.{strip_length, write_checks, Appends}
-use Rattle.strip.proofs.Written.{passed, strip_row, written}
+use Rattle.strip.proofs.Written.{fits, strip_row, written}
 use Rattle.strip.proofs.write.write.Goals as goal
 
 pub slice_bounds-token-end : goal.slice_bounds-token-end
 slice_bounds-token-end g c =
-    let checks = passed (write_checks (g.M.Maker.meaning c.args.maker.now) c.args.height c.args.number (length c.args.path.now) (length c.args.token.now) (length c.args.out.now)) c.in_ok-needed.ensures.0 in
-    let token : 32 ≤ length c.args.token.now = leb-true 32 (length c.args.token.now) checks.1.1.1.0 in
+    let room = fits (g.M.Maker.meaning c.args.maker.now) c.args.height c.args.number (length c.args.path.now) (length c.args.token.now) (length c.args.out.now) c.in_ok-needed.ensures.0 in
     search rules
 
 pub put-requires-4 : goal.put-requires-4
 put-requires-4 g c =
-    let checks = passed (write_checks (g.M.Maker.meaning c.args.maker.now) c.args.height c.args.number (length c.args.path.now) (length c.args.token.now) (length c.args.out.now)) c.in_ok-needed.ensures.0 in
-    let token = length-take-le 32 c.args.token.now (leb-true 32 (length c.args.token.now) checks.1.1.1.0) in
-    let long = leb-true (strip_length (g.M.Maker.meaning c.args.maker.now) c.args.height) (length c.args.out.now) checks.1.1.1.1.0 in
+    let room = fits (g.M.Maker.meaning c.args.maker.now) c.args.height c.args.number (length c.args.path.now) (length c.args.token.now) (length c.args.out.now) c.in_ok-needed.ensures.0 in
+    let token = length-take-le 32 c.args.token.now room.token in
     omega arith
 
 pub put-requires-5 : goal.put-requires-5
 put-requires-5 g c =
-    let checks = passed (write_checks (g.M.Maker.meaning c.args.maker.now) c.args.height c.args.number (length c.args.path.now) (length c.args.token.now) (length c.args.out.now)) c.in_ok-needed.ensures.0 in
-    let token = length-take-le 32 c.args.token.now (leb-true 32 (length c.args.token.now) checks.1.1.1.0) in
-    let long = leb-true (strip_length (g.M.Maker.meaning c.args.maker.now) c.args.height) (length c.args.out.now) checks.1.1.1.1.0 in
+    let room = fits (g.M.Maker.meaning c.args.maker.now) c.args.height c.args.number (length c.args.path.now) (length c.args.token.now) (length c.args.out.now) c.in_ok-needed.ensures.0 in
+    let token = length-take-le 32 c.args.token.now room.token in
     omega arith
 
 pub put_path-requires : goal.put_path-requires
 put_path-requires g c =
     let m = g.M.Maker.meaning c.args.maker.now in
-    let checks = passed (write_checks m c.args.height c.args.number (length c.args.path.now) (length c.args.token.now) (length c.args.out.now)) c.in_ok-needed.ensures.0 in
-    let token = length-take-le 32 c.args.token.now (leb-true 32 (length c.args.token.now) checks.1.1.1.0) in
-    let long = leb-true (strip_length m c.args.height) (length c.args.out.now) checks.1.1.1.1.0 in
-    let cells = ap (λ k. k * m.width) (length-take-le c.args.height c.args.path.now (leb-true c.args.height (length c.args.path.now) checks.1.1.0)) in
+    let room = fits (g.M.Maker.meaning c.args.maker.now) c.args.height c.args.number (length c.args.path.now) (length c.args.token.now) (length c.args.out.now) c.in_ok-needed.ensures.0 in
+    let token = length-take-le 32 c.args.token.now room.token in
+    let cells = ap (λ k. k * m.width) (length-take-le c.args.height c.args.path.now room.path) in
     omega arith
 
 pub returns : goal.returns
