@@ -1,4 +1,4 @@
-use Rattle.std.proofs.Common.{sym, arith, rules}
+use Rattle.std.proofs.Common.{sym, rules}
 use Rattle.std.proofs.lemmas.Bool.{ne_eqb}
 use Rattle.tree.specs.declared.kind.Kind.TheVariants.{Sealed, Dummy}
 use Rattle.strip_c.proofs.strips_strip_length.Goals as goal

@@ -1,4 +1,4 @@
-use Rattle.std.proofs.Common.{◌≡◌, ℕ, List, get_or, sym, rules}
+use Rattle.std.proofs.Common.{ℕ, List, get_or, sym, rules}
 use Rattle.std.proofs.lemmas.Bool.{ne_eqb}
 use Rattle.tree.specs.declared.kind.Kind.TheVariants.{Dummy}
 use Rattle.strip.specs.Calls.{JudgesByKind}

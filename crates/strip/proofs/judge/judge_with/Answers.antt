@@ -1,4 +1,4 @@
-use Rattle.std.proofs.Common.{Ok, Err, ◌∙◌, rules}
+use Rattle.std.proofs.Common.{Err, ◌∙◌, rules}
 use Rattle.strip.specs.declared.refusal.Refusal.TheVariants.{Short}
 use Rattle.strip.specs.Calls.{Judges}
 use Rattle.strip.proofs.Leading.{accepts_root, judges_none, judges, counts_none, counts_made}

@@ -1,4 +1,4 @@
-use Rattle.std.proofs.Common.{◌≡◌, ℕ, List, ◌+◌, ◌*◌, ◌<◌, min, not, length, Some, is_some, sym, ap, ◌∙◌, subst, arith, rules}
+use Rattle.std.proofs.Common.{ℕ, List, ◌+◌, ◌*◌, min, not, length, Some, is_some, sym, ap, ◌∙◌, subst, arith, rules}
 use Rattle.strip.specs.Format.{fault}
 use Rattle.strip.specs.declared.refusal.Section.TheVariants.{Path}
 use Rattle.strip.proofs.Rules.{Passed, passed_chunk, chunk_none, ends_whole, ends_other}
