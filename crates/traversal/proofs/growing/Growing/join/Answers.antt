@@ -1,7 +1,7 @@
-use Rattle.std.proofs.Common.{◌≡◌, ℕ, ◌+◌, ◌-◌, ◌/◌, ◌^◌, ◌<◌, cond, length, get_or, set, refl, ap, ap₂, ◌∙◌, arith, pow_mono}
+use Rattle.std.proofs.Common.{◌≡◌, ℕ, ◌+◌, ◌-◌, ◌/◌, ◌^◌, ◌<◌, length, get_or, set, refl, ap, ap₂, ◌∙◌, arith, pow_mono}
 use Rattle.std.proofs.lemmas.List.{get_or_read}
 use Rattle.growth.specs.Order.{newest}
-use Rattle.growth.specs.Places.{place, stacked_below}
+use Rattle.growth.specs.Places.{place}
 use Rattle.growth.proofs.Placing.{place_inside}
 use Rattle.growth.proofs.Counting.{joined_less}
 use Rattle.traversal.specs.Plots.{layout, depth, on_stack}

@@ -1,7 +1,5 @@
-use Rattle.std.proofs.Common.{◌≡◌, ◌+◌, cond, length, set, refl, ap, ◌∙◌, arith}
-use Rattle.growth.specs.Places.{place}
+use Rattle.std.proofs.Common.{◌+◌, length, set, refl, ap, ◌∙◌, arith}
 use Rattle.traversal.specs.declared.treehash.Treehash.{Treehash}
-use Rattle.traversal.specs.Plots.{layout, owns_cell}
 use Rattle.traversal.proofs.Homes.{adds, cell_is, cell_inside}
 use Rattle.traversal.proofs.Advancing.{next_leaf, stacked_leaf, standing_leaf, advanced_leaf}
 use Rattle.traversal.proofs.growing.Growing.leaf.Goals as goal
