@@ -32,12 +32,6 @@ returns-then-height-plot-2 c =
     ]) in
     (none, refl)
 
-pub overflow_add-result : goal.overflow_add-result
-overflow_add-result c =
-    let less : c.args.height < c.args.self.now.plot.top = omega (arith, c.requires.0) in
-    let row = ap (λ n. c.args.height / c.args.self.now.plot.subtree * n) c.section_cells.ensures in
-    omega (arith, section_inside c.args.self.now.plot c.args.self.now.legal c.args.height less, row)
-
 pub returns : goal.returns
 returns c =
     let h = c.args.self.now.plot.subtree in

@@ -106,8 +106,8 @@ invariant_of-self g c =
       standing = standing_join tree.plot old new tree.standing c.requires.due refl refl refl stacked;
     }
 
-pub returns : goal.returns
-returns g c =
+pub returns-clause-made : goal.returns-clause-made
+returns-clause-made g c =
     let tree = c.args.self.now in
     let plot = tree.plot in
     let old = tree.hash in
@@ -131,12 +131,8 @@ returns g c =
     ∙ ap₂ (λ t k. set t k c.join-node.result) (c.take-left.ensures.table ∙ c.take-right.ensures.table) (cell_is plot (p + 1) (a / 2) c.take-left.result.1 c.home-3.result c.home-3.ensures below) in
     let join = c.join-node.ensures in
     let new : Treehash = record { leaves = old.leaves; joins = old.joins + 1; newest = p + 1; stacked = c.put-stacked.result } in
-    record {
-      made = advanced_join plot tree.legal table c.put-stacked.new.table (g.M.Maker.meaning c.args.lent.now.maker.now) (g.M.Maker.meaning c.join-node.new.self) (g.M.Maker.meter c.args.lent.now.maker.now) (g.M.Maker.meter c.join-node.new.self) (g.S.Source.supply c.args.lent.now.source.now) old new y x c.join-node.result
-          tree.standing c.requires.due c.requires.room
-          (λ d. get_or_read table (place (layout plot) p (a - 1)) y (there (a - 1) (omega arith)) read_left d)
-          (λ d. get_or_read table (place (layout plot) p a) x (there a in_tree) read_right d)
-          join.value put join.keeps join.counts refl refl refl;
-      plot = refl;
-      same_loans = record { table = refl; maker = refl; source = refl };
-    }
+    advanced_join plot tree.legal table c.put-stacked.new.table (g.M.Maker.meaning c.args.lent.now.maker.now) (g.M.Maker.meaning c.join-node.new.self) (g.M.Maker.meter c.args.lent.now.maker.now) (g.M.Maker.meter c.join-node.new.self) (g.S.Source.supply c.args.lent.now.source.now) old new y x c.join-node.result
+    tree.standing c.requires.due c.requires.room
+    (λ d. get_or_read table (place (layout plot) p (a - 1)) y (there (a - 1) (omega arith)) read_left d)
+    (λ d. get_or_read table (place (layout plot) p a) x (there a in_tree) read_right d)
+    join.value put join.keeps join.counts refl refl refl

@@ -27,8 +27,8 @@ invariant_of-self g c =
       standing = standing_leaf tree.plot old new tree.standing c.requires.unfinished c.requires.due refl refl refl stacked;
     }
 
-pub returns : goal.returns
-returns g c =
+pub returns-clause-made : goal.returns-clause-made
+returns-clause-made g c =
     let tree = c.args.self.now in
     let old = tree.hash in
     let table = c.args.lent.now.table.now in
@@ -37,9 +37,5 @@ returns g c =
     let new : Treehash = record { leaves = old.leaves + 1; joins = old.joins; newest = 0; stacked = c.put-stacked.result } in
     let below = stacked_leaf tree.plot old tree.standing c.requires.unfinished c.requires.due in
     let put = c.put-stacked.ensures.table ∙ ap (λ k. set table k c.leaf-node.result) (cell_is tree.plot 0 old.leaves old.stacked c.home.result c.home.ensures below) in
-    record {
-      made = advanced_leaf tree.plot tree.legal table c.put-stacked.new.table (g.M.Maker.meaning c.args.lent.now.maker.now) (g.M.Maker.meaning c.leaf-node.new.self) (g.M.Maker.meter c.args.lent.now.maker.now) (g.M.Maker.meter c.leaf-node.new.self) (g.S.Source.supply c.args.lent.now.source.now) (g.S.Source.supply c.token.new.self) old new c.token.new.out c.leaf-node.result
-          tree.standing c.requires.unfinished c.requires.due c.requires.room gives.0 gives.1 leaf.value put leaf.keeps leaf.counts c.token.ensures.keeps refl refl refl;
-      plot = refl;
-      same_loans = record { table = refl; maker = refl; source = refl };
-    }
+    advanced_leaf tree.plot tree.legal table c.put-stacked.new.table (g.M.Maker.meaning c.args.lent.now.maker.now) (g.M.Maker.meaning c.leaf-node.new.self) (g.M.Maker.meter c.args.lent.now.maker.now) (g.M.Maker.meter c.leaf-node.new.self) (g.S.Source.supply c.args.lent.now.source.now) (g.S.Source.supply c.token.new.self) old new c.token.new.out c.leaf-node.result
+    tree.standing c.requires.unfinished c.requires.due c.requires.room gives.0 gives.1 leaf.value put leaf.keeps leaf.counts c.token.ensures.keeps refl refl refl
