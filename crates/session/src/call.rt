@@ -23,11 +23,13 @@ pub fn call<M: Maker, S: Source>(draft: Draft, ask: Ask, lent: &mut Lent<M, S>) 
             (Held::Drafting(draft), Call::Step { budget, answer })
         }
         Ask::Turn => match draft.turn() {
-            Ok(run) => (Held::Running(run), Call::Turn { accepted: true }),
-            Err(back) => {
-                let Incomplete { draft, missing: _ } = back;
-                (Held::Drafting(draft), Call::Turn { accepted: false })
-            }
+            Ok(run) => (Held::Running(run), Call::Turn { answer: Ok(()) }),
+            Err(Incomplete { draft, missing }) => (
+                Held::Drafting(draft),
+                Call::Turn {
+                    answer: Err(missing),
+                },
+            ),
         },
     }
 }

@@ -56,7 +56,7 @@ fn finish<M: Maker, S: Source>(
 
 // What the next unit of a draft lacks: a step is refused for it.
 fn lack<M: Maker, S: Source>(draft: Draft, lent: &mut Lent<M, S>) -> Refusal
-    requires room { draft.cells ≤ length lent.old.table.now }
+    requires room { draft.shape.cells ≤ length lent.old.table.now }
     requires unfinished { units draft < units_in_all draft }
     requires lacks { (r : Refused) × (unit_lacks draft (S.supply lent.old.source.now) ≡ Some r) }
     ensures lacks { unit_lacks draft (S.supply lent.old.source.now) ≡ Some result }

@@ -3,4 +3,4 @@ pub mod Folding
 pub mod Climbing
 pub mod Nodes
 pub mod Rows
-pub mod Supplying
+pub mod Comparing

@@ -1,13 +1,13 @@
-ghost use Rattle.std.specs.Prelude.{◌≡◌, ◌^◌, ◌≤◌, length, Decides};
+ghost use Rattle.std.specs.Prelude.{◌≡◌, ◌^◌, ◌≤◌, length};
 ghost use Rattle.tree.specs.Numbers.{aligned};
 ghost use Rattle.tree.specs.Meaning.{reading, OneSpelling};
 ghost use Rattle.tree.specs.Spans.{span, join_intervals, join_spans, put_span, are_broken, read_span, dummy_meaning};
-ghost use Rattle.tree.specs.declared.span.Span.TheVariants.{Sound, Broken};
 ghost use Rattle.tree.specs.Spanning.{dummy_lawful};
 ghost use Rattle.std.proofs.Common.{rules};
 
 use crate::counter::Counter;
 use crate::fault::TooShort;
+use crate::kind::Kind;
 use crate::maker::Maker;
 use crate::span::{Interval, Span};
 
@@ -41,11 +41,11 @@ impl Maker for Dummy {
     ghost wraps = { Prim.search rules };
 
     fn kind(&self) -> u8 {
-        2
+        Kind::Dummy.into()
     }
 
     fn width(&self) -> usize {
-        WIDTH
+        Kind::Dummy.width()
     }
 
     fn made(&self) -> (u64, u64) {
@@ -64,7 +64,7 @@ impl Maker for Dummy {
     }
 
     fn same(&self, one: Span, other: Span) -> bool {
-        same_span(one, other)
+        one == other
     }
 
     fn put(&self, node: Span, out: &mut [u8]) -> Result<(), TooShort> {
@@ -146,33 +146,6 @@ fn join_spans(left: Span, right: Span) -> Span
         return Span::Broken;
     };
     join_intervals(a, b)
-}
-
-fn same_span(one: Span, other: Span) -> bool
-    ensures { Decides result (one ≡ other) }
-{
-    match one {
-        Span::Sound(a) => is_interval(other, a),
-        Span::Broken => is_broken(other),
-    }
-}
-
-fn is_interval(span: Span, a: Interval) -> bool
-    ensures { Decides result (Sound a ≡ span) }
-{
-    match span {
-        Span::Sound(b) => a.first == b.first && a.height == b.height,
-        Span::Broken => false,
-    }
-}
-
-fn is_broken(span: Span) -> bool
-    ensures { Decides result (Broken ≡ span) }
-{
-    match span {
-        Span::Sound(_) => false,
-        Span::Broken => true,
-    }
 }
 
 fn span_bytes(node: Span) -> [u8; 5]

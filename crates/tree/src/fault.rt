@@ -23,13 +23,6 @@ pub enum Cause {
     Beyond,
 }
 
-// Whether a source has the token of a number.
-#[derive(Clone, Copy, Debug, PartialEq)]
-pub enum Presence {
-    Present,
-    Absent(Cause),
-}
-
 // A source has no token of this number.
 #[derive(Clone, Copy, Debug, PartialEq)]
 pub struct Missing {

@@ -9,6 +9,7 @@ pub mod fault;
 pub mod fold;
 pub mod geometry;
 pub mod height;
+pub mod kind;
 pub mod list;
 pub mod maker;
 pub mod refusal;

@@ -1,7 +1,8 @@
 ghost use Rattle.std.specs.Prelude.{◌≡◌};
 ghost use Rattle.tree.specs.Entries.{list_supply};
+ghost use Rattle.tree.specs.Supplying.{list_supplies};
 
-use crate::fault::{Cause, Missing, Presence};
+use crate::fault::{Cause, Missing};
 use crate::source::Source;
 
 // How many bytes an entry has: a mark and a token.
@@ -30,29 +31,28 @@ impl<'a> ListSource<'a> {
 impl<'a> Source for ListSource<'a> {
     ghost supply = { λ s. list_supply s.bytes.now };
 
+    ghost supplies = { λ s. list_supplies s.bytes.now };
+
     fn size(&self) -> u32 {
         (self.bytes.len() / ENTRY).min(GREATEST) as u32
     }
 
-    fn look_up(&self, number: u32) -> Presence {
+    fn look_up(&self, number: u32) -> Result<(), Cause> {
         if number >= self.size() {
-            return Presence::Absent(Cause::Beyond);
+            return Err(Cause::Beyond);
         }
         if self.bytes[ENTRY * number as usize] == PRESENT {
-            Presence::Present
+            Ok(())
         } else {
-            Presence::Absent(Cause::Torn)
+            Err(Cause::Torn)
         }
     }
 
     fn token(&mut self, number: u32, out: &mut [u8; 32]) -> Result<(), Missing> {
-        match self.look_up(number) {
-            Presence::Absent(cause) => Err(Missing { number, cause }),
-            Presence::Present => {
-                let start = ENTRY * number as usize + 1;
-                out.copy_from_slice(&self.bytes[start..start + 32]);
-                Ok(())
-            }
-        }
+        self.look_up(number)
+            .map_err(|cause| Missing { number, cause })?;
+        let start = ENTRY * number as usize + 1;
+        out.copy_from_slice(&self.bytes[start..start + 32]);
+        Ok(())
     }
 }

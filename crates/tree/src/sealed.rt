@@ -7,6 +7,7 @@ ghost use Rattle.std.proofs.Common.{rules};
 use crate::counter::Counter;
 use crate::digest::Digest;
 use crate::fault::TooShort;
+use crate::kind::Kind;
 use crate::maker::Maker;
 use crate::row::lay;
 use hashing::digest;
@@ -43,11 +44,11 @@ impl Maker for Sealed {
     ghost wraps = { Prim.search rules };
 
     fn kind(&self) -> u8 {
-        1
+        Kind::Sealed.into()
     }
 
     fn width(&self) -> usize {
-        WIDTH
+        Kind::Sealed.width()
     }
 
     fn made(&self) -> (u64, u64) {
@@ -70,7 +71,7 @@ impl Maker for Sealed {
     }
 
     fn same(&self, one: Digest, other: Digest) -> bool {
-        one.bytes == other.bytes
+        one == other
     }
 
     fn put(&self, node: Digest, out: &mut [u8]) -> Result<(), TooShort> {

@@ -1,8 +1,9 @@
 ghost use Rattle.std.specs.Prelude.{◌≡◌, ◌++◌};
 ghost use Rattle.tree.specs.Numbers.{number_bytes};
 ghost use Rattle.tree.specs.Seeds.{seed_supply, Reseeds};
+ghost use Rattle.tree.specs.Supplying.{seed_supplies};
 
-use crate::fault::{Cause, Missing, Presence, TooShort};
+use crate::fault::{Cause, Missing, TooShort};
 use crate::row::lay;
 use crate::source::Source;
 use hashing::digest;
@@ -41,25 +42,23 @@ impl SeedSource {
 impl Source for SeedSource {
     ghost supply = { λ s. seed_supply s.seed };
 
+    ghost supplies = { λ s. seed_supplies s.seed };
+
     fn size(&self) -> u32 {
         TOKENS
     }
 
-    fn look_up(&self, number: u32) -> Presence {
+    fn look_up(&self, number: u32) -> Result<(), Cause> {
         if number < TOKENS {
-            Presence::Present
+            Ok(())
         } else {
-            Presence::Absent(Cause::Beyond)
+            Err(Cause::Beyond)
         }
     }
 
     fn token(&mut self, number: u32, out: &mut [u8; 32]) -> Result<(), Missing> {
-        if number >= TOKENS {
-            return Err(Missing {
-                number,
-                cause: Cause::Beyond,
-            });
-        }
+        self.look_up(number)
+            .map_err(|cause| Missing { number, cause })?;
         *out = digest(&with_number(&self.seed, number));
         Ok(())
     }

@@ -9,4 +9,4 @@ pub returns-in-Ok : goal.returns-in-Ok
 returns-in-Ok g c = record { asked = sym c.in-Turn.is; made = and_turn (Ok c.in-Ok.run') c.in-Ok.ensures stop; same_loans = record { table = refl; maker = refl; source = refl } }
 
 pub returns-in-Err : goal.returns-in-Err
-returns-in-Err g c = record { asked = sym c.in-Turn.is; made = and_turn (Err c.in-Err.back) c.in-Err.ensures stop; same_loans = record { table = refl; maker = refl; source = refl } }
+returns-in-Err g c = record { asked = sym c.in-Turn.is; made = and_turn (Err c.in-Err.field-0) c.in-Err.ensures stop; same_loans = record { table = refl; maker = refl; source = refl } }

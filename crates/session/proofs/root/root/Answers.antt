@@ -16,7 +16,7 @@ lack-requires g c =
     let long = room c.args.height c.args.subtree v (g.met.M.Maker.wraps c.args.lent.now.maker.now) d begun e w 18446744073709551615 c.step.result c.step.ensures.stepped (lit≤ tt) in
     let (r, lacks) = starves c.args.height c.args.subtree v (g.met.M.Maker.wraps c.args.lent.now.maker.now) d begun e w 18446744073709551615 c.step.result c.step.ensures.stepped (lit≤ tt) few in
     record {
-      room = subst (λ f. f.cells ≤ length c.step.new.lent.table.now) (sym same) (omega (arith, e.shaped.2, long));
+      room = subst (λ f. f.shape.cells ≤ length c.step.new.lent.table.now) (sym same) (omega (arith, e.shape.shaped.2, long));
       unfinished = subst (λ f. units f < units_in_all f) (sym same) few;
       lacks = (r, ap (λ f. unit_lacks f (g.S.Source.supply c.step.new.lent.source.now)) same ∙ lacks);
     }
