@@ -1,9 +1,12 @@
-ghost use Rattle.std.specs.Prelude.{◌≡◌};
-ghost use Rattle.strip.specs.Refusals.{section_number, numbered};
+ghost use Rattle.std.specs.Prelude.{◌≡◌, Some};
+ghost use Rattle.strip.specs.Refusals.{section_number, numbered, fault_text, refusal_line};
 ghost use Rattle.strip.specs.declared.refusal.Refusal.TheVariants.{NoStrip};
 
+use std::error::Error;
+use std::fmt;
+
 // The sections of a strip.
-#[derive(Clone, Copy, Debug, PartialEq)]
+#[derive(Clone, Copy, Debug, PartialEq, Eq)]
 pub enum Section {
     Head,
     Token,
@@ -11,14 +14,14 @@ pub enum Section {
 }
 
 // Where bytes stop being a strip: the place of the first wrong byte, or of the first missing one.
-#[derive(Clone, Copy, Debug, PartialEq)]
+#[derive(Clone, Copy, Debug, PartialEq, Eq)]
 pub struct Fault {
     pub place: usize,
     pub section: Section,
 }
 
 // Why a call does nothing.
-#[derive(Clone, Copy, Debug, PartialEq)]
+#[derive(Clone, Copy, Debug, PartialEq, Eq)]
 pub enum Refusal {
     // No tree has this height.
     Height(u32),
@@ -31,7 +34,7 @@ pub enum Refusal {
 }
 
 impl Section {
-    // The sections count from 1.
+    // The sections count from 1. The number stands for a section in answers alone.
     pub fn number(self) -> u8
         ensures { result ≡ section_number self }
     {
@@ -44,7 +47,8 @@ impl Section {
 }
 
 impl Refusal {
-    // The number by which a refusal is known outside.
+    // The number by which a refusal is known outside. It is one fact of a refusal, not the refusal in
+    // another form, so it is no conversion.
     pub fn number(self) -> u8
         ensures { result ≡ (numbered self).0 }
     {
@@ -64,3 +68,30 @@ impl From<Fault> for Refusal {
         Refusal::NoStrip(fault)
     }
 }
+
+impl fmt::Display for Fault {
+    ghost output = { λ f. Some (fault_text f) };
+
+    fn fmt<W: fmt::Write>(&self, f: &mut fmt::Formatter<W>) -> fmt::Result {
+        write!(f, "{} {}", self.place, self.section.number())
+    }
+}
+
+impl Error for Fault {}
+
+// Printed as the programs answer it: the refusal's number and its values.
+impl fmt::Display for Refusal {
+    ghost output = { λ r. Some (refusal_line r) };
+
+    fn fmt<W: fmt::Write>(&self, f: &mut fmt::Formatter<W>) -> fmt::Result {
+        let number = self.number();
+        match self {
+            Refusal::Height(height) => write!(f, "refused {number} {height}"),
+            Refusal::Short(needed) => write!(f, "refused {number} {needed}"),
+            Refusal::Number(leaf) => write!(f, "refused {number} {leaf}"),
+            Refusal::NoStrip(fault) => write!(f, "refused {number} {fault}"),
+        }
+    }
+}
+
+impl Error for Refusal {}

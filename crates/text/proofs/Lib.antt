@@ -1,2 +1,1 @@
 mod Decoding
-mod Wording

@@ -4,9 +4,9 @@ ghost use Rattle.text.specs.declared.hex.NoBytes.TheVariants.{NoMemory};
 ghost use Rattle.text.specs.Hex.{Decodes};
 
 use std::alloc::{AllocError, AllocFailed, Global};
-use std::error::Error;
 use std::fmt;
 use strip::hex::digit;
+use thiserror::Error;
 use tree::maker::Maker;
 
 // Bytes, to be shown in lower-case hex, two digits a byte.
@@ -35,22 +35,13 @@ pub fn node_hex<M: Maker>(heap: Global, maker: &M, node: M::Node) -> Result<Stri
 }
 
 // Why a text gives no bytes.
-#[derive(Drop, Debug)]
+#[derive(Drop, Debug, Error)]
 pub enum NoBytes {
+    #[error("a line is not lower-case hex, two digits a byte")]
     NotHex,
+    #[error("no memory for the bytes of a line")]
     NoMemory,
 }
-
-impl fmt::Display for NoBytes {
-    fn fmt<W: fmt::Write>(&self, f: &mut fmt::Formatter<W>) -> fmt::Result {
-        match self {
-            NoBytes::NotHex => f.write_str("a line is not lower-case hex, two digits a byte"),
-            NoBytes::NoMemory => f.write_str("no memory for the bytes of a line"),
-        }
-    }
-}
-
-impl Error for NoBytes {}
 
 impl From<AllocFailed<u8>> for NoBytes {
     ghost from_gives = { λ _ r. r ≡ NoMemory };
@@ -65,17 +56,14 @@ impl From<AllocFailed<u8>> for NoBytes {
 pub fn decode(heap: Global, text: &[u8]) -> Result<Vec<u8>, NoBytes>
     ensures { Decodes text.now result }
 {
-    if text.len() % 2 != 0 {
+    let (pairs, rest) = text.as_chunks::<2>();
+    if !rest.is_empty() {
         return Err(NoBytes::NotHex);
     }
     let mut bytes = Vec::new(heap);
-    for i in 0..text.len() / 2 {
-        let Some(high) = digit(text[2 * i]) else {
-            return Err(NoBytes::NotHex);
-        };
-        let Some(low) = digit(text[2 * i + 1]) else {
-            return Err(NoBytes::NotHex);
-        };
+    for [high, low] in pairs {
+        let high = digit(*high).ok_or(NoBytes::NotHex)?;
+        let low = digit(*low).ok_or(NoBytes::NotHex)?;
         bytes.push(16 * high + low)?;
     }
     Ok(bytes)
