@@ -15,7 +15,7 @@ pub enum Ask {
 }
 
 // A call that was made, with what it answered.
-#[derive(Clone, Copy)]
+#[derive(Clone, Copy, Debug, PartialEq, Eq)]
 pub enum Call {
     Step {
         budget: u64,

@@ -71,7 +71,13 @@ impl Growing {
     }
 
     // A node and how many are on the stack without it; if it lies there, it is on top.
-    pub(crate) fn fetch<N: Copy>(&self, table: &mut [N], stacked: usize, height: u32, index: u32) -> (N, usize)
+    pub(crate) fn fetch<N: Copy>(
+        &self,
+        table: &mut [N],
+        stacked: usize,
+        height: u32,
+        index: u32,
+    ) -> (N, usize)
         requires node { (height ≤ self.now.plot.top) × (index < 2 ^ (self.now.plot.top - height)) }
         requires room { Room (layout self.now.plot) (depth self.now.plot) (length table.old) }
         requires stacked { stacked ≡ stacked_below (layout self.now.plot) (self.now.plot.top - height) height index + (if (layout self.now.plot).owns height index then 0 else 1) }
