@@ -1,8 +1,8 @@
 -- The names of the makers.
 use Rattle.std.proofs.Common.{◌≡◌, ℕ, ◌+◌, ◌<◌, List, ◌++◌, length, get_or, take, sym, refl, ap, ◌∙◌, subst, arith}
 use Rattle.std.proofs.lemmas.List.{get_or-take, get_or_append_left, length-take-le}
-use Rattle.ticket.specs.declared.job.Kind.{Kind}
-use Rattle.ticket.specs.declared.job.Kind.TheVariants.{Sealed, Dummy}
+use Rattle.tree.specs.declared.kind.Kind.{Kind}
+use Rattle.tree.specs.declared.kind.Kind.TheVariants.{Sealed, Dummy}
 use Rattle.ticket.specs.Texts.{kind_line}
 use Rattle.ticket.specs.Pieces.{WrongWord}
 use Rattle.ticket.proofs.Words.{word_fails}

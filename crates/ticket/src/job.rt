@@ -1,12 +1,10 @@
-ghost use Rattle.std.specs.Prelude.{◌≡◌};
-ghost use Rattle.ticket.specs.Reading.{numbered};
+ghost use Rattle.std.specs.Prelude.{◌≡◌, Some};
+ghost use Rattle.ticket.specs.Reading.{numbered, refusal_text};
 
-// The makers that a ticket can ask for.
-#[derive(Clone, Copy, Debug, PartialEq)]
-pub enum Kind {
-    Sealed,
-    Dummy,
-}
+// A ticket asks for a kind of maker as a strip does, so the kinds are the tree's.
+use std::error::Error;
+use std::fmt;
+pub use tree::kind::Kind;
 
 // What a ticket asks for, but for its seed. The heights are not judged yet.
 #[derive(Clone, Copy, Debug, PartialEq)]
@@ -33,7 +31,8 @@ pub enum Refusal {
 }
 
 impl Refusal {
-    // The number by which a refusal is known outside.
+    // The number by which a refusal is known outside. It is one fact of a refusal, not the refusal in
+    // another form, so it is no conversion.
     pub fn number(self) -> u8
         ensures { result ≡ (numbered self).0 }
     {
@@ -43,3 +42,20 @@ impl Refusal {
         }
     }
 }
+
+// Printed as the programs answer it: the refusal's number and its values.
+impl fmt::Display for Refusal {
+    ghost output = { λ refusal. Some (refusal_text refusal) };
+
+    fn fmt<W: fmt::Write>(&self, f: &mut fmt::Formatter<W>) -> fmt::Result {
+        let number = self.number();
+        match self {
+            Refusal::Short(needed) => write!(f, "refused {number} {needed}"),
+            Refusal::NoTicket(Spot { line, column }) => {
+                write!(f, "refused {number} {line} {column}")
+            }
+        }
+    }
+}
+
+impl Error for Refusal {}
