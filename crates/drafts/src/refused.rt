@@ -2,7 +2,7 @@ use crate::entries::entries;
 use crate::heights::Heights;
 use crate::trial::Trial;
 use crate::tried::Tried;
-use crate::words::{Answer, Made, Refused};
+use crate::words::{Answer, Made};
 use std::mem;
 use traversal::outcome::Incomplete;
 use traversal::state::Draft;
@@ -175,7 +175,7 @@ fn tell_root<M: Tried>(rt: &HostRuntime, bytes: &[u8]) -> anyhow::Result<()> {
             let root = trial.hex(root)?;
             format!(in rt.alloc(); "root {root}, made {}", Made::from(made))?
         }
-        Err(refusal) => format!(in rt.alloc(); "{}", Refused(refusal))?,
+        Err(refusal) => format!(in rt.alloc(); "{refusal}")?,
     };
     println!(rt; "root by {}: {answer}, meter {}", M::KIND, trial.meter())?;
     Ok(())

@@ -1,6 +1,6 @@
 use crate::heights::Heights;
 use crate::tried::Tried;
-use crate::words::{Answer, Ending, Made, Refused, Tally};
+use crate::words::{Answer, Ending, Made, Tally};
 use session::root::root;
 use std::alloc::AllocError;
 use text::hex::node_hex;
@@ -45,9 +45,9 @@ impl<'a, M: Tried, S: Source + Drop> Trial<'a, M, S> {
         })
     }
 
-    pub(crate) fn begin(&self) -> Result<Draft, Refused> {
+    pub(crate) fn begin(&self) -> Result<Draft, Refusal> {
         let Heights { height, subtree } = self.heights;
-        Ok(Draft::begin(height, subtree, &self.table, &self.source)?)
+        Draft::begin(height, subtree, &self.table, &self.source)
     }
 
     pub(crate) fn step(&mut self, draft: &mut Draft, budget: u64) -> Result<(u64, u64), Refusal> {
@@ -61,7 +61,7 @@ impl<'a, M: Tried, S: Source + Drop> Trial<'a, M, S> {
     }
 
     // Steps a draft until a step makes nothing.
-    pub(crate) fn step_to_end(&mut self, draft: &mut Draft, budget: u64) -> Result<Tally, Refused> {
+    pub(crate) fn step_to_end(&mut self, draft: &mut Draft, budget: u64) -> Result<Tally, Refusal> {
         let mut tally = Tally {
             steps: 0,
             made: Made {
