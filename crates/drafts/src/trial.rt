@@ -62,13 +62,7 @@ impl<'a, M: Tried, S: Source + Drop> Trial<'a, M, S> {
 
     // Steps a draft until a step makes nothing.
     pub(crate) fn step_to_end(&mut self, draft: &mut Draft, budget: u64) -> Result<Tally, Refusal> {
-        let mut tally = Tally {
-            steps: 0,
-            made: Made {
-                leaves: 0,
-                joins: 0,
-            },
-        };
+        let mut tally = Tally::default();
         // a loop has to end, so the steps are bounded
         for _ in 0..STEPS {
             let (leaves, joins) = self.step(draft, budget)?;

@@ -3,7 +3,7 @@ use traversal::outcome::Totals;
 use traversal::refusal::Refusal;
 
 // A number of leaves and one of joins, as a call answers them, to be shown.
-#[derive(Clone, Copy)]
+#[derive(Clone, Copy, Default)]
 pub struct Made {
     pub leaves: u64,
     pub joins: u64,
@@ -69,7 +69,7 @@ impl fmt::Display for Ending {
 }
 
 // The steps of a draft that made something, and the leaves and the joins that they answered.
-#[derive(Clone, Copy)]
+#[derive(Clone, Copy, Default)]
 pub struct Tally {
     pub steps: u64,
     pub made: Made,
