@@ -2,8 +2,7 @@ use crate::entries::entries;
 use crate::heights::Heights;
 use crate::trial::Trial;
 use crate::tried::Tried;
-use crate::words::{Answer, Made, Refused};
-use session::root::root;
+use crate::words::{Answer, Made};
 use std::mem;
 use traversal::outcome::Incomplete;
 use traversal::state::Draft;
@@ -22,11 +21,6 @@ const TOKENS: u8 = 16;
 
 // The cells of the table.
 const CELLS: usize = 19;
-
-// The names of the lines of a table that is long enough and of one that is not.
-const LONG: &str = "long table";
-
-const SHORT: &str = "short table";
 
 // Which token is torn or beyond the source.
 const LACKED: u8 = 5;
@@ -60,7 +54,7 @@ pub(crate) fn tell_early_turns(rt: &HostRuntime) -> anyhow::Result<()> {
     let bytes = entries(rt.alloc(), TOKENS, None)?;
     for units in EARLY {
         let source = ListSource::new(&bytes);
-        let mut trial = Trial::<Dummy, _>::new(rt, "early turn", HEIGHTS, source)?;
+        let mut trial = Trial::<Dummy, _>::new(rt, HEIGHTS, source)?;
         let draft = trial.begin()?;
         tell_early_turn(&mut trial, draft, units)?;
     }
@@ -73,19 +67,18 @@ fn tell_early_turn<M: Tried, S: Source + Drop>(
     units: u64,
 ) -> anyhow::Result<()> {
     let rt = trial.rt;
-    let name = trial.name;
     let first = Answer(trial.step(&mut draft, units));
     match draft.turn() {
         Ok(run) => {
             let _ = run.close();
-            println!(rt; "{name}: {first}, turned")?;
+            println!(rt; "early turn: {first}, turned")?;
         }
         Err(back) => {
             let number = back.number();
             let Incomplete { mut draft, missing } = back;
             let more = Answer(trial.step(&mut draft, u64::MAX));
             let ending = trial.end(draft)?;
-            println!(rt; "{name}: {first}, turn refused {number} {missing}, {more}, {ending}")?;
+            println!(rt; "early turn: {first}, turn refused {number} {missing}, {more}, {ending}")?;
         }
     }
     Ok(())
@@ -107,10 +100,10 @@ pub(crate) fn tell_begins(rt: &HostRuntime) -> anyhow::Result<()> {
 pub(crate) fn tell_short_table(rt: &HostRuntime) -> anyhow::Result<()> {
     let bytes = entries(rt.alloc(), TOKENS, None)?;
     let short = vec![in rt.alloc(); Dummy::FILLER; CELLS - 1]?;
-    let mut trial = Trial::<Dummy, _>::new(rt, LONG, HEIGHTS, ListSource::new(&bytes))?;
+    let mut trial = Trial::<Dummy, _>::new(rt, HEIGHTS, ListSource::new(&bytes))?;
     let mut draft = trial.begin()?;
     let told = tell_two_tables(&mut trial, &mut draft, short);
-    tell_end(&trial, draft, told)
+    trial.tell_end("long table", draft, told)
 }
 
 fn tell_two_tables<M: Tried, S: Source + Drop>(
@@ -118,13 +111,11 @@ fn tell_two_tables<M: Tried, S: Source + Drop>(
     draft: &mut Draft,
     short: Vec<M::Node>,
 ) -> anyhow::Result<()> {
-    trial.tell_step(draft, 7)?;
+    trial.tell_step("long table", draft, 7)?;
     let long = mem::replace(&mut trial.table, short);
-    trial.name = SHORT;
-    tell_steps(trial, draft)?;
+    tell_steps(trial, "short table", draft)?;
     trial.table = long;
-    trial.name = LONG;
-    trial.tell_step(draft, 7)
+    trial.tell_step("long table", draft, 7)
 }
 
 // Steps of drafts that lack a token.
@@ -145,36 +136,25 @@ fn tell_torn(rt: &HostRuntime, name: &str, number: u8) -> anyhow::Result<()> {
 // Begins a draft over one list and steps it over another.
 fn tell_lack<'a>(
     rt: &'a HostRuntime,
-    name: &'a str,
+    name: &str,
     begun: &'a [u8],
     stepped: &'a [u8],
 ) -> anyhow::Result<()> {
-    let mut trial = Trial::<Dummy, _>::new(rt, name, HEIGHTS, ListSource::new(begun))?;
+    let mut trial = Trial::<Dummy, _>::new(rt, HEIGHTS, ListSource::new(begun))?;
     let mut draft = trial.begin()?;
     trial.source = ListSource::new(stepped);
-    let told = tell_steps(&mut trial, &mut draft);
-    tell_end(&trial, draft, told)
+    let told = tell_steps(&mut trial, name, &mut draft);
+    trial.tell_end(name, draft, told)
 }
 
 fn tell_steps<M: Tried, S: Source + Drop>(
     trial: &mut Trial<M, S>,
+    name: &str,
     draft: &mut Draft,
 ) -> anyhow::Result<()> {
     for budget in BUDGETS {
-        trial.tell_step(draft, budget)?;
+        trial.tell_step(name, draft, budget)?;
     }
-    Ok(())
-}
-
-// Ends a draft whatever became of its steps' lines, since no draft may be let go.
-fn tell_end<M: Tried, S: Source + Drop>(
-    trial: &Trial<M, S>,
-    draft: Draft,
-    told: anyhow::Result<()>,
-) -> anyhow::Result<()> {
-    let ending = trial.end(draft);
-    told?;
-    println!(trial.rt; "{}: {}", trial.name, ending?)?;
     Ok(())
 }
 
@@ -189,14 +169,14 @@ pub(crate) fn tell_roots(rt: &HostRuntime) -> anyhow::Result<()> {
 }
 
 fn tell_root<M: Tried>(rt: &HostRuntime, bytes: &[u8]) -> anyhow::Result<()> {
-    let mut trial = Trial::<M, _>::new(rt, M::NAME, HEIGHTS, ListSource::new(bytes))?;
+    let mut trial = Trial::<M, _>::new(rt, HEIGHTS, ListSource::new(bytes))?;
     let answer = match trial.root() {
         Ok((root, made)) => {
             let root = trial.hex(root)?;
             format!(in rt.alloc(); "root {root}, made {}", Made::from(made))?
         }
-        Err(refusal) => format!(in rt.alloc(); "{}", Refused(refusal))?,
+        Err(refusal) => format!(in rt.alloc(); "{refusal}")?,
     };
-    println!(rt; "root by {}: {answer}, meter {}", trial.name, trial.meter())?;
+    println!(rt; "root by {}: {answer}, meter {}", M::KIND, trial.meter())?;
     Ok(())
 }

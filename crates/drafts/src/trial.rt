@@ -1,6 +1,6 @@
 use crate::heights::Heights;
 use crate::tried::Tried;
-use crate::words::{Answer, Ending, Made, Refused, Tally};
+use crate::words::{Answer, Ending, Made, Tally};
 use session::root::root;
 use std::alloc::AllocError;
 use text::hex::node_hex;
@@ -17,12 +17,11 @@ const MORE: usize = 2;
 // More steps than any draft here takes.
 const STEPS: u64 = 1000;
 
-// What a draft is tried with: what is lent to its calls, the heights that it is begun with, and where its
-// lines go and under which name.
+// What a draft is tried with: the heights that it is begun with, what is lent to its calls, and where its lines
+// go.
 #[derive(Drop)]
 pub struct Trial<'a, M: Tried, S: Source + Drop> {
     pub rt: &'a HostRuntime,
-    pub name: &'a str,
     pub heights: Heights,
     pub table: Vec<M::Node>,
     pub maker: M,
@@ -33,14 +32,12 @@ impl<'a, M: Tried, S: Source + Drop> Trial<'a, M, S> {
     // A trial with a new maker and a table that has some cells more than it needs.
     pub(crate) fn new(
         rt: &'a HostRuntime,
-        name: &'a str,
         heights: Heights,
         source: S,
     ) -> anyhow::Result<Trial<'a, M, S>> {
         let cells = heights.cells().saturating_add(MORE);
         Ok(Trial {
             rt,
-            name,
             heights,
             table: vec![in rt.alloc(); M::FILLER; cells]?,
             maker: M::fresh(),
@@ -48,40 +45,24 @@ impl<'a, M: Tried, S: Source + Drop> Trial<'a, M, S> {
         })
     }
 
-    pub(crate) fn begin(&self) -> Result<Draft, Refused> {
+    pub(crate) fn begin(&self) -> Result<Draft, Refusal> {
         let Heights { height, subtree } = self.heights;
-        Ok(Draft::begin(height, subtree, &self.table, &self.source)?)
+        Draft::begin(height, subtree, &self.table, &self.source)
     }
 
     pub(crate) fn step(&mut self, draft: &mut Draft, budget: u64) -> Result<(u64, u64), Refusal> {
-        let mut lent = Lent {
-            table: &mut self.table,
-            maker: &mut self.maker,
-            source: &mut self.source,
-        };
-        draft.step(&mut lent, budget)
+        draft.step(&mut self.lent(), budget)
     }
 
     // The root of a whole draft in one call, and the leaves and the joins made.
     pub(crate) fn root(&mut self) -> Result<(M::Node, (u64, u64)), Refusal> {
         let Heights { height, subtree } = self.heights;
-        let mut lent = Lent {
-            table: &mut self.table,
-            maker: &mut self.maker,
-            source: &mut self.source,
-        };
-        root(height, subtree, &mut lent)
+        root(height, subtree, &mut self.lent())
     }
 
     // Steps a draft until a step makes nothing.
-    pub(crate) fn step_to_end(&mut self, draft: &mut Draft, budget: u64) -> Result<Tally, Refused> {
-        let mut tally = Tally {
-            steps: 0,
-            made: Made {
-                leaves: 0,
-                joins: 0,
-            },
-        };
+    pub(crate) fn step_to_end(&mut self, draft: &mut Draft, budget: u64) -> Result<Tally, Refusal> {
+        let mut tally = Tally::default();
         // a loop has to end, so the steps are bounded
         for _ in 0..STEPS {
             let (leaves, joins) = self.step(draft, budget)?;
@@ -145,13 +126,37 @@ impl<'a, M: Tried, S: Source + Drop> Trial<'a, M, S> {
             .all(|node| self.maker.same(*node, M::FILLER))
     }
 
-    pub(crate) fn tell_step(&mut self, draft: &mut Draft, budget: u64) -> anyhow::Result<()> {
+    pub(crate) fn tell_step(
+        &mut self,
+        name: &str,
+        draft: &mut Draft,
+        budget: u64,
+    ) -> anyhow::Result<()> {
         let answer = Answer(self.step(draft, budget));
-        println!(self.rt;
-            "{}, budget {budget}: {answer}, meter {}",
-            self.name,
-            self.meter()
-        )?;
+        println!(self.rt; "{name}, budget {budget}: {answer}, meter {}", self.meter())?;
         Ok(())
+    }
+
+    // Ends a draft and tells what became of it, if its steps could be told. It ends it either way, since no draft
+    // may be let go.
+    pub(crate) fn tell_end(
+        &self,
+        name: &str,
+        draft: Draft,
+        told: anyhow::Result<()>,
+    ) -> anyhow::Result<()> {
+        let ending = self.end(draft);
+        told?;
+        println!(self.rt; "{name}: {}", ending?)?;
+        Ok(())
+    }
+
+    // What is lent to a call.
+    fn lent(&mut self) -> Lent<'_, '_, '_, M, S> {
+        Lent {
+            table: &mut self.table,
+            maker: &mut self.maker,
+            source: &mut self.source,
+        }
     }
 }

@@ -1,13 +1,13 @@
 use tree::digest::Digest;
 use tree::dummy::Dummy;
+use tree::kind::Kind;
 use tree::maker::Maker;
 use tree::sealed::Sealed;
 use tree::span::Span;
 
 // What the drafts here need of a maker beside its calls.
 pub trait Tried: Maker + Drop {
-    // The word for it.
-    const NAME: &'static str;
+    const KIND: Kind;
 
     // What the cells of a table hold before a draft.
     const FILLER: Self::Node;
@@ -17,7 +17,7 @@ pub trait Tried: Maker + Drop {
 }
 
 impl Tried for Dummy {
-    const NAME: &'static str = "dummy";
+    const KIND: Kind = Kind::Dummy;
 
     const FILLER: Span = Span::Broken;
 
@@ -27,7 +27,7 @@ impl Tried for Dummy {
 }
 
 impl Tried for Sealed {
-    const NAME: &'static str = "sealed";
+    const KIND: Kind = Kind::Sealed;
 
     const FILLER: Digest = Digest { bytes: [0xaa; 32] };
 

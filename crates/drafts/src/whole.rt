@@ -71,16 +71,16 @@ pub(crate) fn tell_drafts(rt: &HostRuntime) -> anyhow::Result<()> {
 }
 
 fn tell_draft<M: Tried>(rt: &HostRuntime, heights: Heights, budget: u64) -> anyhow::Result<()> {
-    let mut trial = Trial::<M, _>::new(rt, M::NAME, heights, SeedSource::new(SEED))?;
+    let mut trial = Trial::<M, _>::new(rt, heights, SeedSource::new(SEED))?;
     let (tally, ending) = trial.draft_whole(budget)?;
-    let name = trial.name;
+    let kind = M::KIND;
     let meter = trial.meter();
     let rest = if trial.keeps_rest() {
         "kept"
     } else {
         "changed"
     };
-    println!(rt; "{name} {heights} by {budget}: {tally}, meter {meter}, {ending}, rest {rest}")?;
+    println!(rt; "{kind} {heights} by {budget}: {tally}, meter {meter}, {ending}, rest {rest}")?;
     Ok(())
 }
 
@@ -94,17 +94,17 @@ pub(crate) fn tell_nodes(rt: &HostRuntime) -> anyhow::Result<()> {
 }
 
 fn tell_cells<M: Tried>(rt: &HostRuntime, heights: Heights, cells: usize) -> anyhow::Result<()> {
-    let mut trial = Trial::<M, _>::new(rt, M::NAME, heights, SeedSource::new(SEED))?;
+    let mut trial = Trial::<M, _>::new(rt, heights, SeedSource::new(SEED))?;
     let _ = trial.draft_whole(u64::MAX)?;
     for (i, node) in trial.table.iter().enumerate().take(cells) {
-        println!(rt; "{} {heights} cell {i}: {}", trial.name, trial.hex(*node)?)?;
+        println!(rt; "{} {heights} cell {i}: {}", M::KIND, trial.hex(*node)?)?;
     }
     Ok(())
 }
 
 // The whole table after each unit of a draft.
 pub(crate) fn tell_units(rt: &HostRuntime) -> anyhow::Result<()> {
-    let mut trial = Trial::<Dummy, _>::new(rt, "step", WATCHED, SeedSource::new(SEED))?;
+    let mut trial = Trial::<Dummy, _>::new(rt, WATCHED, SeedSource::new(SEED))?;
     let mut draft = trial.begin()?;
     let told = tell_each_unit(&mut trial, &mut draft);
     let _ = draft.abandon();
@@ -120,7 +120,7 @@ fn tell_each_unit(trial: &mut Trial<Dummy, SeedSource>, draft: &mut Draft) -> an
             cells.push_str(" ")?;
             cells.push_str(&trial.hex(*node)?)?;
         }
-        println!(rt; "{} {step} {answer}:{cells}", trial.name)?;
+        println!(rt; "step {step} {answer}:{cells}")?;
     }
     Ok(())
 }

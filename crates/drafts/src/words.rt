@@ -1,60 +1,9 @@
-use std::error::Error;
 use std::fmt;
 use traversal::outcome::Totals;
-use traversal::refusal::{Layer, Refusal};
-use tree::fault::Cause;
-
-// A refusal, to be shown by its number and its values.
-#[derive(Drop)]
-pub struct Refused(pub Refusal);
-
-impl fmt::Debug for Refused {
-    fn fmt<W: fmt::Write>(&self, f: &mut fmt::Formatter<W>) -> fmt::Result {
-        write!(f, "{self}")
-    }
-}
-
-impl Error for Refused {}
-
-impl From<Refusal> for Refused {
-    fn from(refusal: Refusal) -> Refused {
-        Refused(refusal)
-    }
-}
-
-impl fmt::Display for Refused {
-    fn fmt<W: fmt::Write>(&self, f: &mut fmt::Formatter<W>) -> fmt::Result {
-        let number = self.0.number();
-        match self.0 {
-            Refusal::Height(height) => write!(f, "refused {number} {height}"),
-            Refusal::Subtree(subtree) => write!(f, "refused {number} {subtree}"),
-            Refusal::Table(cells) => write!(f, "refused {number} {cells}"),
-            Refusal::Source(tokens) => write!(f, "refused {number} {tokens}"),
-            Refusal::Token(lack) => {
-                let token = lack.number;
-                let cause = cause_word(lack.cause);
-                let layer = layer_word(lack.layer);
-                write!(f, "refused {number} {token} {cause} {layer}")
-            }
-        }
-    }
-}
-
-fn cause_word(cause: Cause) -> &'static str {
-    match cause {
-        Cause::Torn => "torn",
-        Cause::Beyond => "beyond",
-    }
-}
-
-fn layer_word(layer: Layer) -> &'static str {
-    match layer {
-        Layer::Draft => "draft",
-    }
-}
+use traversal::refusal::Refusal;
 
 // A number of leaves and one of joins, as a call answers them, to be shown.
-#[derive(Clone, Copy)]
+#[derive(Clone, Copy, Default)]
 pub struct Made {
     pub leaves: u64,
     pub joins: u64,
@@ -80,7 +29,7 @@ impl fmt::Display for Answer {
     fn fmt<W: fmt::Write>(&self, f: &mut fmt::Formatter<W>) -> fmt::Result {
         match self.0 {
             Ok(made) => write!(f, "made {}", Made::from(made)),
-            Err(refusal) => write!(f, "{}", Refused(refusal)),
+            Err(refusal) => write!(f, "{refusal}"),
         }
     }
 }
@@ -109,7 +58,7 @@ impl fmt::Display for Ending {
                 let pulled = Made::from(totals.pulled);
                 write!(f, "root {root}, closed {} {drafted} {pulled}", totals.pulls)
             }
-            Ending::Rootless(refusal) => write!(f, "no root, {}", Refused(*refusal)),
+            Ending::Rootless(refusal) => write!(f, "no root, {refusal}"),
             Ending::Abandoned {
                 number,
                 missing,
@@ -120,7 +69,7 @@ impl fmt::Display for Ending {
 }
 
 // The steps of a draft that made something, and the leaves and the joins that they answered.
-#[derive(Clone, Copy)]
+#[derive(Clone, Copy, Default)]
 pub struct Tally {
     pub steps: u64,
     pub made: Made,

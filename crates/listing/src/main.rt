@@ -4,16 +4,17 @@
 // that the draft made; or why there is none.
 use session::root::root;
 use std::alloc::{AllocError, Global};
-use std::fmt;
 use std::io::Read;
 use text::hex::node_hex;
+use thiserror::Error;
 use ticket::job;
-use ticket::job::{Job, Kind, Spot};
+use ticket::job::Job;
 use ticket::ticket::read;
 use traversal::lent::Lent;
 use traversal::refusal;
 use tree::digest::Digest;
 use tree::dummy::Dummy;
+use tree::kind::Kind;
 use tree::maker::Maker;
 use tree::sealed::Sealed;
 use tree::seed::SeedSource;
@@ -23,43 +24,15 @@ use tree::span::Span;
 const CELLS: usize = 2000;
 
 // Why a ticket gets no root.
-#[derive(Drop)]
+#[derive(Debug, Drop, Error)]
 enum Failure {
-    Ticket(job::Refusal),
-    Traversal(refusal::Refusal),
-    Memory(AllocError),
-}
-
-impl From<job::Refusal> for Failure {
-    fn from(refusal: job::Refusal) -> Failure {
-        Failure::Ticket(refusal)
-    }
-}
-
-impl From<refusal::Refusal> for Failure {
-    fn from(refusal: refusal::Refusal) -> Failure {
-        Failure::Traversal(refusal)
-    }
-}
-
-impl From<AllocError> for Failure {
-    fn from(failure: AllocError) -> Failure {
-        Failure::Memory(failure)
-    }
-}
-
-// A refusal of a traversal is printed by its number alone.
-impl fmt::Display for Failure {
-    fn fmt<W: fmt::Write>(&self, f: &mut fmt::Formatter<W>) -> fmt::Result {
-        match self {
-            Failure::Ticket(job::Refusal::Short(needed)) => write!(f, "refused 7 {needed}"),
-            Failure::Ticket(job::Refusal::NoTicket(Spot { line, column })) => {
-                write!(f, "refused 15 {line} {column}")
-            }
-            Failure::Traversal(refusal) => write!(f, "refused {}", refusal.number()),
-            Failure::Memory(failure) => write!(f, "{failure}"),
-        }
-    }
+    #[error(transparent)]
+    Ticket(#[from] job::Refusal),
+    // printed by its number alone
+    #[error("refused {}", .0.number())]
+    Traversal(#[from] refusal::Refusal),
+    #[error(transparent)]
+    Memory(#[from] AllocError),
 }
 
 fn main(rt: HostRuntime) -> anyhow::Result<()> {
