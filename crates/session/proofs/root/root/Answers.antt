@@ -10,7 +10,7 @@ lack-requires g c =
     let v = world_of g.M.Maker.meaning g.M.Maker.meter g.S.Source.supply c.args.lent.now in
     let w = world_of g.M.Maker.meaning g.M.Maker.meter g.S.Source.supply c.step.new.lent in
     let d = c.in_ok-draft.draft in
-    let begun = c.in_ok-draft.ensures in
+    let begun = c.in_ok-draft.ensures.begun in
     let (few, same, missing) = c.in-Err.ensures in
     let e = c.step.new.self in
     let long = room c.args.height c.args.subtree v (g.met.M.Maker.wraps c.args.lent.now.maker.now) d begun e w 18446744073709551615 c.step.result c.step.ensures.stepped (lit≤ tt) in
@@ -26,7 +26,7 @@ returns-in-Ok g c =
     let v = world_of g.M.Maker.meaning g.M.Maker.meter g.S.Source.supply c.args.lent.now in
     let w = world_of g.M.Maker.meaning g.M.Maker.meter g.S.Source.supply c.step.new.lent in
     record {
-      drafted = rooted c.args.height c.args.subtree v (g.met.M.Maker.wraps c.args.lent.now.maker.now) c.in_ok-draft.draft c.in_ok-draft.ensures c.step.new.self w 18446744073709551615 c.step.result c.step.ensures.stepped (lit≤ tt) c.in-Ok.run' c.finish.result c.in-Ok.ensures c.finish.ensures;
+      drafted = rooted c.args.height c.args.subtree v (g.met.M.Maker.wraps c.args.lent.now.maker.now) c.in_ok-draft.draft c.in_ok-draft.ensures.begun c.step.new.self w 18446744073709551615 c.step.result c.step.ensures.stepped (lit≤ tt) c.in-Ok.run' c.finish.result c.in-Ok.ensures c.finish.ensures;
       same_loans = c.step.ensures.same_loans;
     }
 
@@ -36,7 +36,7 @@ returns-in-Err g c =
     let w = world_of g.M.Maker.meaning g.M.Maker.meter g.S.Source.supply c.step.new.lent in
     let (few, same, missing) = c.in-Err.ensures in
     record {
-      drafted = starved_root c.args.height c.args.subtree v (g.met.M.Maker.wraps c.args.lent.now.maker.now) c.in_ok-draft.draft c.in_ok-draft.ensures c.step.new.self w 18446744073709551615 c.step.result c.step.ensures.stepped (lit≤ tt) c.lack.result _ c.lack.ensures.keeps few
+      drafted = starved_root c.args.height c.args.subtree v (g.met.M.Maker.wraps c.args.lent.now.maker.now) c.in_ok-draft.draft c.in_ok-draft.ensures.begun c.step.new.self w 18446744073709551615 c.step.result c.step.ensures.stepped (lit≤ tt) c.lack.result _ c.lack.ensures.keeps few
           (ap (λ f. unit_lacks f (g.S.Source.supply c.step.new.lent.source.now)) (sym same) ∙ c.lack.ensures.lacks);
       same_loans = same_then c.args.lent.now c.step.new.lent c.lack.new.lent c.step.ensures.same_loans c.lack.ensures.same_loans;
     }
