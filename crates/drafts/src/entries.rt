@@ -1,7 +1,7 @@
 use std::alloc::Global;
 
 // How many bytes a token has.
-const TOKEN: u8 = 32;
+const TOKEN: usize = 32;
 
 // The mark of a token that is present, and one that is not.
 const PRESENT: u8 = 1;
@@ -13,9 +13,7 @@ pub(crate) fn entries(heap: Global, count: u8, torn: Option<u8>) -> anyhow::Resu
     let mut bytes = Vec::new(heap);
     for number in 0..count {
         bytes.push(if torn == Some(number) { TORN } else { PRESENT })?;
-        for _ in 0..TOKEN {
-            bytes.push(number)?;
-        }
+        bytes.extend_from_slice(&[number; TOKEN])?;
     }
     Ok(bytes)
 }

@@ -1,12 +1,13 @@
-ghost use Rattle.std.specs.Prelude.{◌≡◌, Some};
+ghost use Rattle.std.specs.Prelude.{◌≡◌, Some, IfOk, string_bytes};
 ghost use Rattle.strip.specs.Hex.{hex_text};
 ghost use Rattle.text.specs.declared.hex.NoBytes.TheVariants.{NoMemory};
 ghost use Rattle.text.specs.Hex.{Decodes};
 
-use std::alloc::{AllocFailed, Global};
+use std::alloc::{AllocError, AllocFailed, Global};
 use std::fmt;
 use strip::hex::digit;
 use thiserror::Error;
+use tree::maker::Maker;
 
 // Bytes, to be shown in lower-case hex, two digits a byte.
 #[derive(Clone, Copy)]
@@ -21,6 +22,16 @@ impl fmt::Display for Hex<'_> {
         }
         Ok(())
     }
+}
+
+// The bytes of a node in lower-case hex.
+pub fn node_hex<M: Maker>(heap: Global, maker: &M, node: M::Node) -> Result<String, AllocError>
+    ensures { IfOk result (λ s. string_bytes s ≡ hex_text ((M.meaning maker.now).put node)) }
+{
+    let mut bytes = vec![in heap; 0; maker.width()]?;
+    // the bytes have the width of a node, so this is never refused
+    let _ = maker.put(node, &mut bytes);
+    format!(in heap; "{}", Hex(&bytes))
 }
 
 // Why a text gives no bytes.

@@ -1,22 +1,20 @@
 -- The layout of a draft fits a table of the right size.
 use Rattle.std.proofs.Common.{◌≡◌, ℕ, zero, suc, ◌+◌, ◌-◌, ◌*◌, ◌%◌, ◌^◌, ◌≤◌, true, leb, None, Ok, sym, ap, ◌∙◌, ap₂, ⊎_elim, add-mul, pow-suc, div-add-mod', mul-add, arith, lit<}
 use Rattle.std.proofs.lemmas.Nat.{mul-le, shl_whole}
-use Rattle.std.proofs.lemmas.Bool.{and_parts, leb-true, cases_lt, cond-true, cond-false}
+use Rattle.std.proofs.lemmas.Bool.{and_parts, leb-true, cases_lt, cases_Bool, cond-true, cond-false}
 use Rattle.growth.specs.Order.{join_due}
 use Rattle.growth.proofs.Ends.{twice_pow}
 use Rattle.growth.proofs.Counting.{joined_most}
 use Rattle.tree.specs.Numbers.{legal_height}
-use Rattle.tree.specs.Geometry.{levels, subtree_cells, existing_start, following_start}
+use Rattle.tree.specs.Geometry.{Shaped, levels, subtree_cells, existing_start, following_start}
 use Rattle.tree.proofs.Rows.{in_a_row, subtree_facts, some_level}
 use Rattle.growth.specs.Places.{Room}
 use Rattle.traversal.specs.declared.treehash.Treehash.{Treehash}
 use Rattle.traversal.specs.Plots.{layout, depth, Legal}
-use Rattle.traversal.specs.Shapes.{Shaped, draft_plot}
-use Rattle.traversal.specs.declared.treehash.Made.{Made}
-use Rattle.traversal.specs.declared.treehash.Made.TheVariants.{Leaf, Join}
+use Rattle.traversal.specs.Shapes.{draft_plot}
 use Rattle.traversal.specs.declared.state.Draft.{Draft}
 use Rattle.traversal.specs.Worlds.{World}
-use Rattle.traversal.specs.Units.{Standing, UnitMade}
+use Rattle.traversal.specs.Units.{next_unit, Standing, Advanced}
 use Rattle.traversal.specs.Calls.{lacking, DraftUnit}
 
 pub height_facts : (H : ℕ) → legal_height H ≡ true → (1 ≤ H) × (H ≤ 20)
@@ -84,13 +82,14 @@ module _ (H h n : ℕ) (shaped : Shaped H h n) where
   all_units = shl_whole 2 2 H 64 (lit< tt) (omega (arith, (height_facts H shaped.0).1)) ∙ sym (twice_pow H)
 
 -- One unit of a draft.
-module _ {N : Type 0} (d e : Draft) (v w : World N) (height : e.height ≡ d.height) (subtree : e.subtree ≡ d.subtree) where
-  pub unit_taken : (made : Made) → UnitMade (draft_plot d.height d.subtree) v d.hash (Ok made) w e.hash → DraftUnit d v (Ok made) e w
-  unit_taken Leaf (due, advanced) = (
-    cond-false (join_due d.hash.leaves d.hash.newest) None _ due ∙ ap (lacking d.hash.leaves) (advanced.present d.hash.leaves (omega arith) (omega (arith, advanced.leaves_made))),
-    record { height = height; subtree = subtree; advanced = advanced },
-  )
-  unit_taken Join (due, advanced) = (
-    cond-true (join_due d.hash.leaves d.hash.newest) None _ due,
-    record { height = height; subtree = subtree; advanced = advanced },
-  )
+pub unit_taken : {N : Type 0} (d e : Draft) (v w : World N) → e.shape ≡ d.shape → Advanced (draft_plot d.shape.height d.shape.subtree) v d.hash (next_unit d.hash).0 (next_unit d.hash).1 w e.hash → DraftUnit d v (Ok tt) e w
+unit_taken d e v w shape advanced =
+    let l = d.hash.leaves in
+    let due = join_due l d.hash.newest in (
+      ⊎_elim (cond-true due None _)
+          (λ none.
+          let leaf = ap (λ (p : ℕ × ℕ). p.0) (cond-false due (0, 1) (1, 0) none) in
+          cond-false due None _ none ∙ ap (lacking l) (advanced.present l (omega arith) (omega (arith, advanced.leaves_made))))
+          (cases_Bool due),
+      record { shape = shape; advanced = advanced },
+    )

@@ -4,3 +4,4 @@ pub mod Advancing
 pub mod Beginning
 pub mod Drafting
 pub mod Stepping
+pub mod Lending

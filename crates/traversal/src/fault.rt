@@ -3,7 +3,7 @@ ghost use Rattle.std.specs.Prelude.{◌≡◌};
 use tree::fault::Missing;
 
 // A unit of a treehash lacked its token.
-#[derive(Clone, Copy)]
+#[derive(Clone, Copy, Debug, PartialEq, Eq)]
 pub struct UnitFault {
     pub missing: Missing,
 }
@@ -17,7 +17,7 @@ impl From<Missing> for UnitFault {
 }
 
 // A unit of a draft lacked its token.
-#[derive(Clone, Copy)]
+#[derive(Clone, Copy, Debug, PartialEq, Eq)]
 pub struct DraftFault {
     pub unit: UnitFault,
 }

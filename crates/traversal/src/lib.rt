@@ -4,6 +4,8 @@
 // interrupted, on a table of nodes that the caller lends.
 pub mod draft;
 pub mod fault;
+mod growing;
+pub mod lent;
 pub mod outcome;
 mod plot;
 pub mod refusal;

@@ -20,7 +20,7 @@ impl Incomplete {
 
 // What a closed run comes to: how many pulls there were, and the leaves and joins that were made by the
 // draft and by the pulls.
-#[derive(Clone, Copy)]
+#[derive(Clone, Copy, Debug, PartialEq, Eq)]
 pub struct Totals {
     pub pulls: u64,
     pub drafted: (u64, u64),

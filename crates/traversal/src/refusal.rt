@@ -1,19 +1,21 @@
-ghost use Rattle.std.specs.Prelude.{◌≡◌};
-ghost use Rattle.traversal.specs.Refusals.{numbered, from_tree, draft_lack};
+ghost use Rattle.std.specs.Prelude.{◌≡◌, Some};
+ghost use Rattle.traversal.specs.Refusals.{numbered, layer_text, refusal_text, from_tree, draft_lack};
 ghost use Rattle.traversal.specs.declared.refusal.Refusal.TheVariants.{Token};
 
 use crate::fault::DraftFault;
+use std::error::Error;
+use std::fmt;
 use tree::fault::Cause;
 use tree::refusal;
 
 // Which call lacked a token.
-#[derive(Clone, Copy)]
+#[derive(Clone, Copy, Debug, PartialEq, Eq)]
 pub enum Layer {
     Draft,
 }
 
 // A token that could not be had.
-#[derive(Clone, Copy)]
+#[derive(Clone, Copy, Debug, PartialEq, Eq)]
 pub struct Lack {
     pub number: u32,
     pub cause: Cause,
@@ -21,7 +23,7 @@ pub struct Lack {
 }
 
 // Why a call of a traversal does nothing.
-#[derive(Clone, Copy)]
+#[derive(Clone, Copy, Debug, PartialEq, Eq)]
 pub enum Refusal {
     // No tree has this height.
     Height(u32),
@@ -49,6 +51,40 @@ impl Refusal {
         }
     }
 }
+
+impl fmt::Display for Layer {
+    ghost output = { λ layer. Some (layer_text layer) };
+
+    fn fmt<W: fmt::Write>(&self, f: &mut fmt::Formatter<W>) -> fmt::Result {
+        f.write_str(match self {
+            Layer::Draft => "draft",
+        })
+    }
+}
+
+// Its number and its values.
+impl fmt::Display for Refusal {
+    ghost output = { λ refusal. Some (refusal_text refusal) };
+
+    fn fmt<W: fmt::Write>(&self, f: &mut fmt::Formatter<W>) -> fmt::Result {
+        write!(f, "refused {}", self.number())?;
+        match self {
+            Refusal::Height(height) => write!(f, " {height}"),
+            Refusal::Subtree(subtree) => write!(f, " {subtree}"),
+            Refusal::Table(cells) => write!(f, " {cells}"),
+            Refusal::Source(tokens) => write!(f, " {tokens}"),
+            Refusal::Token(
+                Lack {
+                    number,
+                    cause,
+                    layer,
+                },
+            ) => write!(f, " {number} {cause} {layer}"),
+        }
+    }
+}
+
+impl Error for Refusal {}
 
 impl From<refusal::Refusal> for Refusal {
     ghost from_gives = { λ t r. r ≡ from_tree t };

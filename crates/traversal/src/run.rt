@@ -10,8 +10,8 @@ impl Run {
     pub fn root<N: Copy>(&self, table: &[N]) -> Result<N, Refusal>
         ensures { Rooted self.now table.now result }
     {
-        if table.len() < self.cells {
-            return Err(Refusal::Table(self.cells));
+        if table.len() < self.shape.cells {
+            return Err(Refusal::Table(self.shape.cells));
         }
         Ok(table[0])
     }
@@ -21,9 +21,7 @@ impl Run {
         ensures { result ≡ totals self }
     {
         let Run {
-            height: _,
-            subtree: _,
-            cells: _,
+            shape: _,
             pulls,
             drafted,
             pulled,

@@ -1,5 +1,7 @@
-ghost use Rattle.std.specs.Prelude.{◌≡◌};
-ghost use Rattle.tree.specs.Refusals.{short_numbered};
+ghost use Rattle.std.specs.Prelude.{◌≡◌, Some};
+ghost use Rattle.tree.specs.Refusals.{short_numbered, cause_text};
+
+use std::fmt;
 
 // A slice is too short for what should go into it or come out of it.
 #[derive(Clone, Copy, Debug, PartialEq)]
@@ -17,14 +19,25 @@ impl TooShort {
 }
 
 // Why a source gives no token: it was spoiled, or the number is past the source's end.
-#[derive(Clone, Copy, Debug, PartialEq)]
+#[derive(Clone, Copy, Debug, PartialEq, Eq)]
 pub enum Cause {
     Torn,
     Beyond,
 }
 
+impl fmt::Display for Cause {
+    ghost output = { λ cause. Some (cause_text cause) };
+
+    fn fmt<W: fmt::Write>(&self, f: &mut fmt::Formatter<W>) -> fmt::Result {
+        f.write_str(match self {
+            Cause::Torn => "torn",
+            Cause::Beyond => "beyond",
+        })
+    }
+}
+
 // A source has no token of this number.
-#[derive(Clone, Copy, Debug, PartialEq)]
+#[derive(Clone, Copy, Debug, PartialEq, Eq)]
 pub struct Missing {
     pub number: u32,
     pub cause: Cause,

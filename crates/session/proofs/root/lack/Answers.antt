@@ -5,5 +5,5 @@ use Rattle.session.proofs.Rooting.{refused_unit}
 pub returns : goal.returns
 returns g c =
     let d = c.args.draft in
-    let (why, same, still) = c.in-Err.ensures in
-    record { lacks = (refused_unit d (length c.args.table.now) 1 (g.S.Source.supply c.args.source.now) c.in-Err.refusal (omega (arith, d.shaped.2, c.requires.room)) why).0; keeps = still }
+    let (why, same, still) = c.in-Err.ensures.stepped in
+    record { lacks = (refused_unit d (length c.args.lent.now.table.now) 1 (g.S.Source.supply c.args.lent.now.source.now) c.in-Err.refusal (omega (arith, d.shape.shaped.2, c.requires.room)) why).0; keeps = still; same_loans = c.in-Err.ensures.same_loans }

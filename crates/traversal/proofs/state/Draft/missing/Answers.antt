@@ -7,11 +7,11 @@ overflow_sub-result-3 c =
     let d = c.args.self.now in
     let leaves = ap (λ (p : ℕ × ℕ). p.0) c.pair-leaves.ensures in
     let joins = ap (λ (p : ℕ × ℕ). p.1) c.pair-leaves.ensures in
-    omega (arith, all_units d.height d.subtree d.cells d.shaped, units_most d.height d.subtree d.cells d.shaped d.hash d.standing)
+    omega (arith, all_units d.shape.height d.shape.subtree d.shape.cells d.shape.shaped, units_most d.shape.height d.shape.subtree d.shape.cells d.shape.shaped d.hash d.standing)
 
 pub returns : goal.returns
 returns c =
     let d = c.args.self.now in
     let leaves = ap (λ (p : ℕ × ℕ). p.0) c.pair-leaves.ensures in
     let joins = ap (λ (p : ℕ × ℕ). p.1) c.pair-leaves.ensures in
-    omega (arith, all_units d.height d.subtree d.cells d.shaped, units_most d.height d.subtree d.cells d.shaped d.hash d.standing)
+    omega (arith, all_units d.shape.height d.shape.subtree d.shape.cells d.shape.shaped, units_most d.shape.height d.shape.subtree d.shape.cells d.shape.shaped d.hash d.standing)
