@@ -1,7 +1,7 @@
 -- Words that stand in a text, and where they fail.
 use Rattle.std.proofs.Common.{◌≡◌, ℕ, zero, suc, ◌+◌, ◌<◌, ◌≤◌, Bool, true, false, not, List, [], ◌∷◌, ◌++◌, length, get_or, take, drop, codes, Some, None, Option, Ok, Err, Result, IsSome, unwrap_or, is_ok, Bor, sym, refl, ap, ◌∙◌, arith, length-append}
 use Rattle.std.specs.Option.{option_map, option_eq}
-use Rattle.std.proofs.lemmas.List.{take-append-drop, take_all, take-take, take-append-le, length-take-le, get_or-take, get_or_append_left}
+use Rattle.std.proofs.lemmas.List.{take-append-drop, take-take, take-append-le, length-take-le, get_or-take, get_or_append_left}
 use Rattle.ticket.specs.declared.reader.Wrong.{Wrong}
 use Rattle.ticket.specs.Pieces.{WrongWord, LiteralRead}
 
@@ -40,10 +40,6 @@ word_fails Good word xs k within a good same reach differs = record {
       let inside = (differs b gb front).0 in
       (differs b gb front).1 (omega arith) (ap (λ l. get_or l k 0) e ∙ get_or_append_left (word b) ys 0 k inside);
 }
-
--- a word that was found byte by byte
-pub word_found : (word xs : List ℕ) → take (length word) xs ≡ take (length word) word → xs ≡ word ++ drop (length word) xs
-word_found word xs same = sym (take-append-drop (length word) xs) ∙ ap (λ l. l ++ drop (length word) xs) (same ∙ take_all (length word) word (omega arith))
 
 -- a list with a first byte
 pub front : (xs : List ℕ) → 0 < length xs → xs ≡ get_or xs 0 0 ∷ drop 1 xs
