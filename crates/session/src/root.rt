@@ -24,14 +24,11 @@ pub fn root<M: Maker, S: Source>(
     let _ = draft.step(lent, u64::MAX);
     match draft.turn() {
         Ok(run) => finish(run, lent),
-        Err(back) => {
-            let Incomplete { draft, missing: _ } = back;
-            Err(lack(draft, lent))
-        }
+        Err(Incomplete { draft, missing: _ }) => Err(lack(draft, lent)),
     }
 }
 
-// Begins a draft with what is lent.
+// Begins a draft with what is lent. Of what lies behind a `&mut` the check lends one field at a time.
 fn begin<M: Maker, S: Source>(
     height: u32,
     subtree: u32,
