@@ -1,7 +1,7 @@
 -- The law over all lists of calls: what is kept from call to call, and what it comes to.
-use Rattle.std.proofs.Common.{◌≡◌, ℕ, ◌+◌, ◌-◌, ◌*◌, ◌/◌, ◌%◌, ◌^◌, ◌<◌, ◌≤◌, min, true, cond, ◌&&◌, ltb, leb, ◌⊎◌, List, [], ◌∷◌, length, get_or, Some, None, Ok, Err, Result, sym, refl, ap, ◌∙◌, subst, ap₂, inl, inr, ⊎_elim, add-zero, add_assoc, add-mul, zero-add, arith, pow_mono}
+use Rattle.std.proofs.Common.{◌≡◌, ℕ, ◌+◌, ◌-◌, ◌*◌, ◌/◌, ◌%◌, ◌^◌, ◌<◌, ◌≤◌, min, true, cond, ◌&&◌, ltb, ◌⊎◌, List, ◌∷◌, length, get_or, Some, None, Ok, Err, Result, sym, refl, ap, ◌∙◌, subst, ap₂, inl, inr, ⊎_elim, add-zero, add_assoc, add-mul, zero-add, arith, pow_mono}
 use Rattle.std.proofs.lemmas.Nat.{div-mul-add, mod-mul-add, mul-le}
-use Rattle.std.proofs.lemmas.Bool.{cases_lt, cases_Bool, cond-true, cond-false, leb-true, ltb-true, le-ltb, and_parts, false≢true}
+use Rattle.std.proofs.lemmas.Bool.{cases_lt, cases_Bool, cond-true, cond-false, ltb-true, le-ltb, and_parts, false≢true}
 use Rattle.growth.specs.Order.{Reached, join_due}
 use Rattle.growth.specs.Places.{carried, place}
 use Rattle.growth.specs.Values.{Grew}
@@ -19,7 +19,6 @@ use Rattle.traversal.specs.declared.state.Draft.{Draft}
 use Rattle.traversal.specs.declared.state.Run.{Run}
 use Rattle.traversal.specs.declared.outcome.Incomplete.{Incomplete}
 use Rattle.traversal.specs.declared.refusal.Refusal.{Refusal}
-use Rattle.traversal.specs.declared.refusal.Refusal.TheVariants.{Height, Subtree, Table, Source}
 use Rattle.traversal.specs.declared.treehash.Treehash.{Treehash}
 use Rattle.traversal.specs.Plots.{row_start, layout, depth, owns_cell, own_cell}
 use Rattle.traversal.specs.Shapes.{draft_plot}
@@ -28,7 +27,7 @@ use Rattle.traversal.specs.Calls.{units, units_in_all, Begun, unit_lacks, lackin
 use Rattle.traversal.proofs.Plotting.{sound, owns_decides, cell_root, cell_row}
 use Rattle.traversal.proofs.Drafting.{draft_legal, draft_room, rows_start, whole_levels}
 use Rattle.traversal.proofs.Stepping.{most}
-use Rattle.traversal.proofs.Beginning.{passed}
+use Rattle.traversal.proofs.Beginning.{begin_passed}
 use Rattle.session.specs.declared.held.Held.{Held}
 use Rattle.session.specs.declared.held.Held.TheVariants.{Drafting, Running}
 use Rattle.session.specs.declared.held.Call.{Call}
@@ -306,8 +305,5 @@ module _ {N : Type 0} (H h : ℕ) (v : World N) (height : legal_height H ≡ tru
 pub lawful_from : {N : Type 0} (H h : ℕ) (v : World N) → Wraps v.meter → (r : Result Draft Refusal) → Begun H h (length v.table) v.supply r → LawfulFrom H h v r
 lawful_from H h v wraps (Err r) begun = tt
 lawful_from H h v wraps (Ok d) (checks, tall, low, made) =
-    let size = table_size H h in
-    let (height, one) = passed (legal_height H) (Height H) ((legal_subtree H h, Subtree h) ∷ (leb size (length v.table), Table size) ∷ (leb (2 ^ H) v.supply.size, Source v.supply.size) ∷ []) checks in
-    let (subtree, two) = passed (legal_subtree H h) (Subtree h) ((leb size (length v.table), Table size) ∷ (leb (2 ^ H) v.supply.size, Source v.supply.size) ∷ []) one in
-    let (enough, three) = passed (leb size (length v.table)) (Table size) ((leb (2 ^ H) v.supply.size, Source v.supply.size) ∷ []) two in
-    lawful H h v height subtree (leb-true _ _ enough) wraps d tall low (ap (λ (p : ℕ × ℕ). p.0) made) (ap (λ (p : ℕ × ℕ). p.1) made)
+    let (height, subtree, enough, tokens) = begin_passed H h (length v.table) v.supply.size checks in
+    lawful H h v height subtree enough wraps d tall low (ap (λ (p : ℕ × ℕ). p.0) made) (ap (λ (p : ℕ × ℕ). p.1) made)

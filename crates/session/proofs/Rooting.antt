@@ -1,22 +1,19 @@
 -- A draft that is stepped as far as it goes: it is complete, or the first missing token is in its way.
-use Rattle.std.proofs.Common.{◌≡◌, ℕ, zero, suc, ◌+◌, ◌-◌, ◌^◌, ◌<◌, ◌≤◌, cond, ◌&&◌, ltb, leb, ◌⊎◌, [], ◌∷◌, length, Some, None, Ok, Err, Option, Result, sym, refl, ap, ◌∙◌, subst, ap₂, inl, inr, ⊎_elim, arith, pow_mono}
-use Rattle.std.proofs.lemmas.Bool.{cases_lt, cases_Bool, cond-true, cond-false, le-ltb, ltb-true, leb-true, and_parts}
+use Rattle.std.proofs.Common.{◌≡◌, ℕ, zero, suc, ◌+◌, ◌-◌, ◌^◌, ◌<◌, ◌≤◌, cond, ◌&&◌, ltb, ◌⊎◌, length, Some, None, Ok, Err, Option, Result, sym, refl, ap, ◌∙◌, subst, ap₂, inl, inr, ⊎_elim, arith, pow_mono}
+use Rattle.std.proofs.lemmas.Bool.{cases_lt, cases_Bool, cond-true, cond-false, le-ltb, ltb-true, and_parts}
 use Rattle.growth.specs.Order.{join_due}
 use Rattle.growth.proofs.Ends.{twice_pow}
 use Rattle.growth.proofs.Making.{leaf_room}
 use Rattle.growth.proofs.Counting.{joined_whole, unfinished}
-use Rattle.tree.specs.Refusals.{first_refusal}
 use Rattle.tree.specs.Supply.{Supply, presence}
 use Rattle.tree.specs.Meaning.{Wraps, after}
-use Rattle.tree.specs.Numbers.{legal_height}
-use Rattle.tree.specs.Geometry.{table_size, legal_subtree}
+use Rattle.tree.specs.Geometry.{table_size}
 use Rattle.traversal.specs.declared.state.Draft.{Draft}
 use Rattle.traversal.specs.declared.state.Run.{Run}
 use Rattle.traversal.specs.declared.refusal.Refusal.{Refusal}
-use Rattle.traversal.specs.declared.refusal.Refusal.TheVariants.{Height, Subtree, Table, Source}
 use Rattle.traversal.specs.Worlds.{World}
-use Rattle.traversal.specs.Calls.{units, units_in_all, unit_lacks, lacking, begin_checks, Begun, Stepped, step_refusal, Turned}
-use Rattle.traversal.proofs.Beginning.{passed}
+use Rattle.traversal.specs.Calls.{units, units_in_all, unit_lacks, lacking, Begun, Stepped, step_refusal, Turned}
+use Rattle.traversal.proofs.Beginning.{begin_passed}
 use Rattle.traversal.proofs.Drafting.{height_facts}
 use Rattle.traversal.proofs.Stepping.{most}
 use Rattle.session.specs.History.{stop, and_step, and_turn}
@@ -99,11 +96,8 @@ module _ {N : Type 0} (H h : ℕ) (v : World N) (wraps : Wraps v.meter) (d : Dra
     (e : Draft) (w : World N) (budget : ℕ) (answer : Result (ℕ × ℕ) Refusal) (did : Stepped d v budget answer e w) (large : 2 ^ 22 ≤ budget) where
   facts : (table_size H h ≤ length v.table) × (H ≤ 20)
   facts =
-      let size = table_size H h in
-      let (height, one) = passed (legal_height H) (Height H) ((legal_subtree H h, Subtree h) ∷ (leb size (length v.table), Table size) ∷ (leb (2 ^ H) v.supply.size, Source v.supply.size) ∷ []) begun.0 in
-      let (subtree, two) = passed (legal_subtree H h) (Subtree h) ((leb size (length v.table), Table size) ∷ (leb (2 ^ H) v.supply.size, Source v.supply.size) ∷ []) one in
-      let (enough, three) = passed (leb size (length v.table)) (Table size) ((leb (2 ^ H) v.supply.size, Source v.supply.size) ∷ []) two in
-      (leb-true _ _ enough, (height_facts H height).1)
+      let (height, subtree, enough, tokens) = begin_passed H h (length v.table) v.supply.size begun.0 in
+      (enough, (height_facts H height).1)
 
   pub tall : e.shape.height ≡ H
   tall = (stepped_keeps d e v w budget answer did).2 ∙ begun.1
@@ -162,11 +156,3 @@ module _ {N : Type 0} (H h : ℕ) (v : World N) (wraps : Wraps v.meter) (d : Dra
         law.tree,
         around,
       )
-
--- begin refuses
-pub unbegun : {N : Type 0} (H h : ℕ) (v : World N) (r : Refusal) → first_refusal (begin_checks H h (length v.table) v.supply.size) ≡ Some r → DraftsRoot H h v (Err r) v
-unbegun H h v r e = (
-  ap (λ (o : Option Refusal). or_else o (first_lack v.supply (2 ^ H))) e,
-  λ _. refl,
-  record { meaning = refl; supply = refl; long = refl; past = λ y k far. refl },
-)

@@ -25,10 +25,7 @@ pub fn root<M: Maker, S: Source>(
     let _ = draft.step(lent, u64::MAX);
     match draft.turn() {
         Ok(run) => finish(run, lent),
-        Err(back) => {
-            let Incomplete { draft, missing: _ } = back;
-            Err(lack(draft, lent))
-        }
+        Err(Incomplete { draft, missing: _ }) => Err(lack(draft, lent)),
     }
 }
 

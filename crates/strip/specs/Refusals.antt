@@ -1,5 +1,6 @@
 -- What each refusal is called, and which of several comes.
 use Rattle.std.specs.Prelude.{ℕ, List, [], ◌∷◌, ◌++◌, Some, None, codes, decimal, Option}
+use Rattle.tree.specs.Refusals.{spaced}
 use Rattle.strip.specs.declared.refusal.Section.{Section}
 use Rattle.strip.specs.declared.refusal.Section.TheVariants.{Head, Token, Path}
 use Rattle.strip.specs.declared.refusal.Fault.{Fault}
@@ -22,11 +23,6 @@ numbered (NoStrip f) = (11, f.place ∷ section_number f.section ∷ [])
 abbrev pub or_else : Option Fault → Option Refusal → Option Refusal
 or_else None o = o
 or_else (Some f) o = Some (NoStrip f)
-
--- each number after a blank
-abbrev pub spaced : List ℕ → List ℕ
-spaced [] = []
-spaced (n ∷ ns) = codes " " ++ (decimal n ++ spaced ns)
 
 -- the word, the refusal's number and its values
 abbrev pub refusal_line : Refusal → List ℕ

@@ -1,6 +1,6 @@
 -- What reading a ticket answers, said of the set of all tickets.
 use Rattle.std.specs.Prelude.{◌≡◌, ℕ, ◌+◌, ◌<◌, ◌≤◌, cond, List, [], ◌∷◌, ◌++◌, length, take, drop, replicate, codes, Ok, Err, Result, ◌==◌, nat_lt}
-use Rattle.strip.specs.Refusals.{spaced}
+use Rattle.tree.specs.Refusals.{spaced}
 use Rattle.ticket.specs.declared.job.Job.{Job}
 use Rattle.ticket.specs.declared.job.Refusal.{Refusal}
 use Rattle.ticket.specs.declared.job.Refusal.TheVariants.{Short, NoTicket}

@@ -8,7 +8,6 @@ use text::damage::{each_change, each_cut};
 use ticket::job::Job;
 use ticket::ticket::read;
 use tree::geometry::size;
-use tree::refusal::Refusal;
 use tree::seed::SeedSource;
 use tree::source::Source;
 
@@ -77,12 +76,7 @@ fn first_token(source: &mut SeedSource) -> u32 {
 fn tell_size(rt: &HostRuntime, height: u32, subtree: u32) -> anyhow::Result<()> {
     match size(height, subtree) {
         Ok(cells) => println!(rt; "size {height} {subtree}: {cells}")?,
-        Err(Refusal::Height(height)) => println!(rt;
-            "size {height} {subtree}: refused 1 {height}"
-        )?,
-        Err(Refusal::Subtree(subtree)) => println!(rt;
-            "size {height} {subtree}: refused 2 {subtree}"
-        )?,
+        Err(refusal) => println!(rt; "size {height} {subtree}: {refusal}")?,
     }
     Ok(())
 }

@@ -1,8 +1,7 @@
 -- The layout of a draft fits a table of the right size.
-use Rattle.std.proofs.Common.{◌≡◌, ℕ, zero, suc, ◌+◌, ◌-◌, ◌*◌, ◌%◌, ◌^◌, ◌≤◌, true, leb, None, Ok, sym, ap, ◌∙◌, ap₂, ⊎_elim, add-mul, pow-suc, div-add-mod', mul-add, arith, lit<}
+use Rattle.std.proofs.Common.{◌≡◌, ℕ, zero, suc, ◌+◌, ◌-◌, ◌*◌, ◌%◌, ◌^◌, ◌≤◌, true, leb, sym, ap, ◌∙◌, ⊎_elim, add-mul, pow-suc, div-add-mod', mul-add, arith, lit<}
 use Rattle.std.proofs.lemmas.Nat.{mul-le, shl_whole}
-use Rattle.std.proofs.lemmas.Bool.{and_parts, leb-true, cases_lt, cases_Bool, cond-true, cond-false}
-use Rattle.growth.specs.Order.{join_due}
+use Rattle.std.proofs.lemmas.Bool.{and_parts, leb-true, cases_lt}
 use Rattle.growth.proofs.Ends.{twice_pow}
 use Rattle.growth.proofs.Counting.{joined_most}
 use Rattle.tree.specs.Numbers.{legal_height}
@@ -12,10 +11,7 @@ use Rattle.growth.specs.Places.{Room}
 use Rattle.traversal.specs.declared.treehash.Treehash.{Treehash}
 use Rattle.traversal.specs.Plots.{layout, depth, Legal}
 use Rattle.traversal.specs.Shapes.{draft_plot}
-use Rattle.traversal.specs.declared.state.Draft.{Draft}
-use Rattle.traversal.specs.Worlds.{World}
-use Rattle.traversal.specs.Units.{next_unit, Standing, Advanced}
-use Rattle.traversal.specs.Calls.{lacking, DraftUnit}
+use Rattle.traversal.specs.Units.{Standing}
 
 pub height_facts : (H : ℕ) → legal_height H ≡ true → (1 ≤ H) × (H ≤ 20)
 height_facts H e = let both = and_parts (leb 1 H) (leb H 20) e in (leb-true 1 H both.0, leb-true H 20 both.1)
@@ -33,9 +29,6 @@ module _ (H h n : ℕ) (shaped : Shaped H h n) where
 
   pub tail_starts : following_start H h 1 ≡ 1 + levels H h * subtree_cells h
   tail_starts = let same : levels H h + (1 - 1) ≡ levels H h = omega arith in ap (λ k. 1 + k * subtree_cells h) same
-
-  pub plot_is : (rows tail : ℕ) → rows ≡ 1 → tail ≡ 1 + levels H h * subtree_cells h → record { lowest = 0; top = H; subtree = h; rows = rows; tail = tail } ≡ draft_plot H h
-  plot_is rows tail e f = ap₂ (λ r t. record { lowest = 0; top = H; subtree = h; rows = r; tail = t }) (e ∙ sym rows_start) (f ∙ sym tail_starts)
 
   pub draft_legal : Legal (draft_plot H h)
   draft_legal =
@@ -80,16 +73,3 @@ module _ (H h n : ℕ) (shaped : Shaped H h n) where
 
   pub all_units : (2 * 2 ^ H) % 2 ^ 64 ≡ 2 ^ (H + 1)
   all_units = shl_whole 2 2 H 64 (lit< tt) (omega (arith, (height_facts H shaped.0).1)) ∙ sym (twice_pow H)
-
--- One unit of a draft.
-pub unit_taken : {N : Type 0} (d e : Draft) (v w : World N) → e.shape ≡ d.shape → Advanced (draft_plot d.shape.height d.shape.subtree) v d.hash (next_unit d.hash).0 (next_unit d.hash).1 w e.hash → DraftUnit d v (Ok tt) e w
-unit_taken d e v w shape advanced =
-    let l = d.hash.leaves in
-    let due = join_due l d.hash.newest in (
-      ⊎_elim (cond-true due None _)
-          (λ none.
-          let leaf = ap (λ (p : ℕ × ℕ). p.0) (cond-false due (0, 1) (1, 0) none) in
-          cond-false due None _ none ∙ ap (lacking l) (advanced.present l (omega arith) (omega (arith, advanced.leaves_made))))
-          (cases_Bool due),
-      record { shape = shape; advanced = advanced },
-    )

@@ -8,7 +8,6 @@ use Rattle.tree.specs.Meaning.{Wraps}
 use Rattle.tree.specs.Supply.{Supply}
 use Rattle.traversal.specs.declared.fault.DraftFault.{DraftFault}
 use Rattle.traversal.specs.declared.refusal.Refusal.{Refusal}
-use Rattle.traversal.specs.declared.refusal.Refusal.TheVariants.{Table}
 use Rattle.traversal.specs.declared.state.Draft.{Draft}
 use Rattle.traversal.specs.Shapes.{draft_plot}
 use Rattle.traversal.specs.Worlds.{World}
@@ -23,9 +22,6 @@ pub most : (d : Draft) → units d ≤ units_in_all d
 most d = units_most d.shape.height d.shape.subtree d.shape.cells d.shape.shaped d.hash d.standing
 
 -- The checks of a step.
-pub table_short : (d : Draft) (cells budget : ℕ) (s : Supply) → cells < table_size d.shape.height d.shape.subtree → step_refusal d cells s budget ≡ Some (Table (table_size d.shape.height d.shape.subtree))
-table_short d cells budget s short = cond-true (ltb cells (table_size d.shape.height d.shape.subtree)) _ _ (lt-ltb cells _ short)
-
 pub nothing_due : (d : Draft) (cells budget : ℕ) (s : Supply) → table_size d.shape.height d.shape.subtree ≤ cells → 0 ≡ min budget (units_in_all d - units d) → step_refusal d cells s budget ≡ None
 nothing_due d cells budget s enough none =
     cond-false (ltb cells (table_size d.shape.height d.shape.subtree)) _ _ (le-ltb cells _ enough)

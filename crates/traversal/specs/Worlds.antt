@@ -18,7 +18,8 @@ abbrev pub world_of : {N M S : Type 0} → (M → Meaning N) → (M → Meter) �
 world_of meaning meter supply lent =
     world lent.table.now (meaning lent.maker.now) (meter lent.maker.now) (supply lent.source.now)
 
--- The same table, maker and source are lent still.
+-- The same table, maker and source are lent still. Each call with a `Lent` says so, or its caller would not know what
+-- its own three became.
 pub record SameLoans {N M S : Type 0} (before later : Lent M S N) : Type 0 where
   pub table : later.table.ghost_name ≡ before.table.ghost_name
   pub maker : later.maker.ghost_name ≡ before.maker.ghost_name

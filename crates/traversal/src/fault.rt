@@ -2,7 +2,7 @@ ghost use Rattle.std.specs.Prelude.{◌≡◌};
 
 use tree::fault::Missing;
 
-// A unit of a treehash lacked its token.
+// A unit of a treehash lacked its token. Each layer has a type of its own, so that it can add what it knows.
 #[derive(Clone, Copy, Debug, PartialEq, Eq)]
 pub struct UnitFault {
     pub missing: Missing,

@@ -6,7 +6,7 @@ use crate::plot::{Home, Plot, row_offset, section_cells};
 use crate::treehash::Treehash;
 
 // A tree that grows in a table: where its nodes lie, and how far its treehash has come. That the table has
-// room is asked by each call, since a table is lent only for one.
+// room is asked by each call: a type that holds the lent table beside this fact is not covered by the check.
 #[derive(Clone, Copy)]
 pub(crate) struct Growing {
     pub(crate) plot: Plot,

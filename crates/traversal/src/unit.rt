@@ -43,9 +43,8 @@ impl Growing {
     {
         let Treehash {
             leaves,
-            joins,
-            newest: _,
             stacked,
+            ..
         } = self.hash;
         let mut token = [0; 32];
         lent.source.token(leaves, &mut token)?;
@@ -53,9 +52,9 @@ impl Growing {
         let stacked = self.home(0, leaves).put(lent.table, stacked, node);
         self.hash = Treehash {
             leaves: leaves + 1,
-            joins,
             newest: 0,
             stacked,
+            ..self.hash
         };
         Ok(())
     }
@@ -70,9 +69,9 @@ impl Growing {
     {
         let Treehash {
             leaves,
-            joins,
             newest: height,
             stacked,
+            ..
         } = self.hash;
         let index = (leaves - 1) >> height;
         let (right, stacked) = self.home(height, index).take(lent.table, stacked);
@@ -82,10 +81,10 @@ impl Growing {
             .home(height + 1, index / 2)
             .put(lent.table, stacked, node);
         self.hash = Treehash {
-            leaves,
-            joins: joins + 1,
+            joins: self.hash.joins + 1,
             newest: height + 1,
             stacked,
+            ..self.hash
         };
     }
 }

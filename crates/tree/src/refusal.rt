@@ -1,8 +1,11 @@
-ghost use Rattle.std.specs.Prelude.{◌≡◌};
-ghost use Rattle.tree.specs.Refusals.{numbered};
+ghost use Rattle.std.specs.Prelude.{◌≡◌, Some};
+ghost use Rattle.tree.specs.Refusals.{numbered, refusal_text};
+
+use std::error::Error;
+use std::fmt;
 
 // Why a call on a tree does nothing.
-#[derive(Clone, Copy, Debug, PartialEq)]
+#[derive(Clone, Copy, Debug, PartialEq, Eq)]
 pub enum Refusal {
     // No tree has this height.
     Height(u32),
@@ -22,3 +25,18 @@ impl Refusal {
         }
     }
 }
+
+// Printed as the programs answer it: the refusal's number and its value.
+impl fmt::Display for Refusal {
+    ghost output = { λ refusal. Some (refusal_text refusal) };
+
+    fn fmt<W: fmt::Write>(&self, f: &mut fmt::Formatter<W>) -> fmt::Result {
+        let number = self.number();
+        match self {
+            Refusal::Height(height) => write!(f, "refused {number} {height}"),
+            Refusal::Subtree(subtree) => write!(f, "refused {number} {subtree}"),
+        }
+    }
+}
+
+impl Error for Refusal {}
