@@ -77,12 +77,11 @@ fn first_token(source: &mut SeedSource) -> u32 {
 fn tell_size(rt: &HostRuntime, height: u32, subtree: u32) -> anyhow::Result<()> {
     match size(height, subtree) {
         Ok(cells) => println!(rt; "size {height} {subtree}: {cells}")?,
-        Err(Refusal::Height(height)) => println!(rt;
-            "size {height} {subtree}: refused 1 {height}"
-        )?,
-        Err(Refusal::Subtree(subtree)) => println!(rt;
-            "size {height} {subtree}: refused 2 {subtree}"
-        )?,
+        Err(refusal) => {
+            let number = refusal.number();
+            let (Refusal::Height(value) | Refusal::Subtree(value)) = refusal;
+            println!(rt; "size {height} {subtree}: refused {number} {value}")?;
+        }
     }
     Ok(())
 }
