@@ -49,9 +49,6 @@ module _ (bs : List ℕ) where
       pub within : p ≤ length bs
       pub same : first_broken bs (node_rules m bs p (H - i)) ≡ first_broken bs (node_rules m bs 41 H)
 
-    pub passed_none : (rest : List ℕ) → 41 ≤ length bs → rest ≡ drop 41 bs → Passed 0 41 rest
-    passed_none rest long e = record { here = e; within = long; same = ap (λ k. first_broken bs (node_rules m bs 41 k)) (sub-zero H) }
-
     module _ {i p : ℕ} {rest : List ℕ} (so_far : Passed i p rest) where
       size : length rest + p ≡ length bs
       size = let e = ap length so_far.here ∙ length-drop p bs in let w = so_far.within in omega arith
