@@ -1,13 +1,12 @@
 -- Where a faultless strip leads.
-use Rattle.std.proofs.Common.{◌≡◌, ℕ, ◌+◌, ◌*◌, ◌/◌, ◌^◌, ◌<◌, Bool, true, false, eqb, ltb, List, length, get_or, take, MatchOption, Some, None, Ok, Err, Result, sym, refl, ap, ◌∙◌, subst, ap₂, mul_comm, arith, length-drop}
+use Rattle.std.proofs.Common.{◌≡◌, ℕ, ◌+◌, ◌*◌, ◌/◌, ◌^◌, ◌<◌, Bool, true, eqb, List, length, get_or, Some, None, Ok, Err, Result, sym, ap, ◌∙◌, ap₂, mul_comm, arith, length-drop}
 use Rattle.std.proofs.lemmas.Nat.{div-mul-add}
-use Rattle.std.proofs.lemmas.Bool.{cond-true, cond-false, eq-eqb, ne_eqb, lt-ltb, le-ltb, both_ways}
+use Rattle.std.proofs.lemmas.Bool.{cond-true, eq-eqb, ne_eqb, lt-ltb}
 use Rattle.std.proofs.lemmas.Bool.Decides.{when_true, when_false}
-use Rattle.std.proofs.lemmas.List.{take_all}
-use Rattle.tree.specs.Meaning.{Meaning, Lawful, Meter, after}
+use Rattle.tree.specs.Meaning.{Meaning, Lawful, Meter}
 use Rattle.tree.specs.Numbers.{legal_height}
 use Rattle.tree.specs.Tree.{root_of, path_of}
-use Rattle.tree.specs.Path.{leads_to, front_node, nodes_of, path_nodes, folded}
+use Rattle.tree.specs.Path.{leads_to, nodes_of, path_nodes, folded}
 use Rattle.tree.proofs.Climbing.{path_leads_to_root, length_siblings}
 use Rattle.tree.specs.Digests.{sealed_meaning}
 use Rattle.tree.specs.Spans.{dummy_meaning}
@@ -17,7 +16,7 @@ use Rattle.strip.specs.declared.refusal.Refusal.{Refusal}
 use Rattle.strip.specs.declared.refusal.Refusal.TheVariants.{Short}
 use Rattle.strip.specs.Format.{strip_bytes, height_in, number_in, token_in, path_in, fault_in}
 use Rattle.strip.specs.Refusals.{or_else}
-use Rattle.strip.specs.Calls.{nodes_in, leads, Holds, Checks, AcceptsFullTree, Judges, AcceptsRoot, CountsJudging, JudgesByKind}
+use Rattle.strip.specs.Calls.{nodes_in, leads, Holds, Checks, AcceptsFullTree, Judges, AcceptsRoot, JudgesByKind}
 use Rattle.strip.proofs.Faultless.{Faultless, faultless}
 use Rattle.strip.proofs.Written.{holds, kind_at}
 

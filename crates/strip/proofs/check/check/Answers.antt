@@ -33,8 +33,7 @@ returns-clause-answer g c =
     let folds = up.value ∙ ap (λ k. folded k n c.leaf-leaf.result path) made.keeps in
     let top = leads_up m lawful bs p.0 n _ path p.2 p.3 p.4 c.leaf-leaf.result c.in-Some.top made.value folds in
     let joins = ap (λ k. length (path_nodes k path)) made.keeps ∙ nodes_made m lawful bs p.0 n _ path p.2 p.3 p.4 in
-    let verdict = c.same.ensures in
-    (
+    let verdict = c.same.ensures in (
       p.0,
       (λ yes. sym top ∙ verdict.0 yes, λ e. verdict.1 (top ∙ e)),
       up.counts ∙ ap₂ (after 0) joins made.counts ∙ after_after 1 0 0 (height_in bs) (g.M.Maker.meter maker) ∙ ap (λ k. after 1 k (g.M.Maker.meter maker)) (zero-add (height_in bs)),

@@ -1,6 +1,6 @@
-use Rattle.std.proofs.Common.{◌≡◌, ◌+◌, ◌*◌, ◌<◌, ◌++◌, length, drop, ap, ◌∙◌, sym, arith, rules}
+use Rattle.std.proofs.Common.{◌+◌, ◌*◌, ◌<◌, ◌++◌, length, drop, ap, ◌∙◌, sym, arith, rules}
 use Rattle.tree.specs.Path.{path_nodes}
-use Rattle.strip.proofs.Filling.{filled_none, chunk_within, chunk_all, chunk_not_none, chunk_filled, chunks_filled}
+use Rattle.strip.proofs.Filling.{chunk_within, chunk_all, chunk_not_none, chunk_filled, chunks_filled}
 use Rattle.strip.proofs.read.fill.Goals as goal
 
 pub unreachable-requires : goal.unreachable-requires

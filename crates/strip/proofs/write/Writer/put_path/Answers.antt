@@ -1,7 +1,5 @@
-use Rattle.std.proofs.Common.{◌≡◌, ℕ, ◌+◌, ◌*◌, ◌≤◌, length, le_refl, add-mul, one-mul, zero-mul, arith, ◌∙◌, refl}
-use Rattle.std.proofs.lemmas.Nat.{mul-le}
-use Rattle.std.proofs.lemmas.List.{take_all}
-use Rattle.strip.proofs.Appending.{appends_none, appends_then, path_bytes_more}
+use Rattle.std.proofs.Common.{◌≡◌, ℕ, ◌+◌, ◌*◌, add-mul, one-mul, arith, ◌∙◌}
+use Rattle.strip.proofs.Appending.{appends_then, path_bytes_more}
 use Rattle.strip.proofs.write.Writer.put_path.Goals as goal
 
 pub loop-node-preserved : goal.loop-node-preserved
