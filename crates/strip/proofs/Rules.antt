@@ -1,5 +1,5 @@
 -- Rules for bytes, one after another.
-use Rattle.std.proofs.Common.{◌≡◌, ℕ, suc, ◌+◌, ◌-◌, ◌*◌, ◌<◌, ◌≤◌, min, Bool, true, false, cond, ltb, List, [], ◌∷◌, ◌++◌, length, take, drop, is_some, Some, None, Option, sym, refl, ap, ◌∙◌, ap₂, subst, ⊎_elim, le_refl, add-mul, one-mul, arith, length-drop}
+use Rattle.std.proofs.Common.{◌≡◌, ℕ, suc, ◌+◌, ◌-◌, ◌*◌, ◌<◌, ◌≤◌, min, Bool, true, false, cond, ltb, List, [], ◌∷◌, ◌++◌, length, take, drop, is_some, Some, None, Option, sym, refl, ap, ◌∙◌, ap₂, subst, ⊎_elim, le_refl, add-mul, one-mul, zero-mul, arith, length-drop}
 use native.Mathlib.Nat.{sub-zero}
 use Rattle.std.proofs.lemmas.Bool.{cond-true, cond-false, lt-ltb, le-ltb, le-leb, lt-leb, cases_lt}
 use Rattle.std.proofs.lemmas.List.{drop-drop}
@@ -49,8 +49,10 @@ module _ (bs : List ℕ) where
       pub within : p ≤ length bs
       pub same : first_broken bs (node_rules m bs p (H - i)) ≡ first_broken bs (node_rules m bs 41 H)
 
-    pub passed_none : (rest : List ℕ) → 41 ≤ length bs → rest ≡ drop 41 bs → Passed 0 41 rest
-    passed_none rest long e = record { here = e; within = long; same = ap (λ k. first_broken bs (node_rules m bs 41 k)) (sub-zero H) }
+    pub passed_none : (rest : List ℕ) → 41 ≤ length bs → rest ≡ drop 41 bs → Passed 0 (41 + 0 * m.width) rest
+    passed_none rest long e =
+        subst (λ p. Passed 0 p rest) (sym (ap (λ k. 41 + k) (zero-mul m.width)))
+        (record { here = e; within = long; same = ap (λ k. first_broken bs (node_rules m bs 41 k)) (sub-zero H) })
 
     module _ {i p : ℕ} {rest : List ℕ} (so_far : Passed i p rest) where
       size : length rest + p ≡ length bs

@@ -108,8 +108,7 @@ passed (check ∷ checks) e =
     ⊎_elim (λ good. (good, passed checks (sym (cond-true check.0 (first_refusal checks) (Some check.1) good) ∙ e)))
     (λ bad.
     let some = sym (cond-false check.0 (first_refusal checks) (Some check.1) bad) ∙ e in
-    let z : ◌≡◌ {A = ℕ} 0 1 = cc in
-    absurd (omega arith))
+    absurd (cc))
     (cases_Bool check.0)
 
 -- what the checks leave room for

@@ -25,8 +25,8 @@ pub fn read<'a, M: Maker>(
     Ok(strip)
 }
 
-// Fills the first cells with the nodes of a path. A `zip` with the cells' `iter_mut` would leave no word of
-// what was written into them.
+// Fills the first cells with the nodes of a path. The cells are numbered and not zipped with the path, since
+// nothing is known of what a `zip` with an `iter_mut` wrote.
 fn fill<M: Maker>(maker: &M, path: &[u8], cells: &mut [M::Node])
     requires nodes { length (path_nodes (M.meaning maker.now) path.now) ≡ length path.now / (M.meaning maker.now).width }
     requires room { length (path_nodes (M.meaning maker.now) path.now) ≤ length cells.old }

@@ -88,7 +88,7 @@ impl Writer<'_> {
         ensures { Puts self.old ((M.meaning maker.now).put node) self.new }
     {
         let end = self.place + maker.width();
-        let _ = maker.put(node, &mut self.out[self.place..end]);
+        maker.put(node, &mut self.out[self.place..end]).unwrap();
         self.place = end;
     }
 

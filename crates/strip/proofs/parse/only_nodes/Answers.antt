@@ -1,8 +1,21 @@
-use Rattle.std.proofs.Common.{ℕ, List, ◌+◌, ◌*◌, min, not, length, Some, is_some, sym, ap, ◌∙◌, subst, arith, rules}
+use Rattle.std.proofs.Common.{◌≡◌, ℕ, List, ◌+◌, ◌*◌, min, not, length, Some, is_some, sym, ap, ◌∙◌, subst, arith, rules}
+use Rattle.std.proofs.lemmas.List.{take_rest}
 use Rattle.strip.specs.Format.{fault}
 use Rattle.strip.specs.declared.refusal.Section.TheVariants.{Path}
-use Rattle.strip.proofs.Rules.{Passed, passed_chunk, chunk_none, ends_whole, ends_other}
+use Rattle.strip.proofs.Rules.{Passed, passed_none, passed_chunk, chunk_none, ends_whole, ends_other}
 use Rattle.strip.proofs.parse.only_nodes.Goals as goal
+
+pub loop-i-init : goal.loop-i-init
+loop-i-init g c =
+    let m = g.M.Maker.meaning c.args.maker.now in
+    let none : c.into_iter-i-iterator.result.count ≡ 0 = cc in
+    record {
+      can_next = search rules;
+      is_finite = search rules;
+      upto = search rules;
+      size = search rules;
+      passed = rw none (passed_none c.args.bytes.now m c.args.height _ c.requires (cc (take_rest c.args.bytes.now 41)));
+    }
 
 pub returns-then-is_none : goal.returns-then-is_none
 returns-then-is_none g c =

@@ -1,19 +1,7 @@
-use Rattle.std.proofs.Common.{◌≡◌, ◌+◌, ◌*◌, ◌<◌, ◌++◌, length, drop, ap, ◌∙◌, sym, arith, rules}
+use Rattle.std.proofs.Common.{◌+◌, ◌*◌, ◌<◌, ◌++◌, length, drop, ap, ◌∙◌, sym, arith, rules}
 use Rattle.tree.specs.Path.{path_nodes}
-use Rattle.strip.proofs.Filling.{filled_none, chunk_within, chunk_all, chunk_not_none, chunk_filled, chunks_filled}
+use Rattle.strip.proofs.Filling.{chunk_within, chunk_all, chunk_not_none, chunk_filled, chunks_filled}
 use Rattle.strip.proofs.read.fill.Goals as goal
-
-pub loop-i-init : goal.loop-i-init
-loop-i-init g c = record {
-  can_next = search rules;
-  is_finite = search rules;
-  size = search rules;
-  all = search rules;
-  filled =
-      let none : c.into_iter-i-iterator.result.count ≡ 0 = cc in
-      let whole : c.into_iter-i-iterator.result.iter.rest.now ≡ c.args.path.now = cc in
-      rw (none, whole) (filled_none (g.M.Maker.meaning c.args.maker.now) c.args.path.now _ c.args.cells.now c.requires.nodes);
-}
 
 pub unreachable-requires : goal.unreachable-requires
 unreachable-requires g c =
