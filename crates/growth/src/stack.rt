@@ -1,7 +1,9 @@
 ghost use Rattle.std.specs.Prelude.{◌≡◌};
 ghost use Rattle.growth.specs.Stacks.{Pushed, Popped};
 
-// A stack of nodes of any kind over a lent slice: its nodes are the first `len` cells, the bottom first.
+// A stack of nodes of any kind over a lent slice: its nodes are the first `len` cells, the bottom first. It is
+// no `Vec`, since the library takes no memory: the cells lie in the caller's table. Cells are read and written
+// by index: `get` and `get_mut` lend the slice on, and then the proof no longer knows what it holds.
 #[derive(Drop)]
 pub struct Stack<'a, N> {
     pub cells: &'a mut [N],

@@ -1,8 +1,7 @@
 -- What `==` of two spans says.
 use Rattle.std.proofs.Common.{◌≡◌, ℕ, Bool, true, false, ◌&&◌, eqb, refl, ap, sym}
 use Rattle.std.specs.Prelude.{Decides}
-use Rattle.std.proofs.lemmas.Bool.Decides.{Decides-and, Decides-eqb, Decides-like, Decides-at}
-use Rattle.tree.specs.declared.span.Interval.{Interval}
+use Rattle.std.proofs.lemmas.Bool.Decides.{Decides-and, Decides-eqb, Decides-like}
 use Rattle.tree.specs.declared.span.Span.{Span}
 use Rattle.tree.specs.declared.span.Span.TheVariants.{Sound, Broken}
 use Rattle.tree.specs.contracts.span.SpanPartialEq.TheImpl as span

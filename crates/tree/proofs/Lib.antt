@@ -4,3 +4,5 @@ pub mod Climbing
 pub mod Nodes
 pub mod Rows
 pub mod Comparing
+pub mod Intervals
+pub mod Listing

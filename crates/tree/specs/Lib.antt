@@ -1,6 +1,7 @@
 pub mod Meaning
 pub mod Tree
 pub mod Path
+pub mod Counting
 pub mod Numbers
 pub mod Kinds
 pub mod Spans

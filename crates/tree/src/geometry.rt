@@ -12,7 +12,7 @@ const GREATEST: u32 = 10;
 pub fn is_subtree(height: u32, subtree: u32) -> bool
     ensures { result ≡ legal_subtree height subtree }
 {
-    subtree >= 1 && subtree <= GREATEST && height % subtree == 0
+    (1..=GREATEST).contains(&subtree) && height % subtree == 0
 }
 
 // The shape of a traversal: the height of its tree, that of its subtrees, and how many cells its table has.

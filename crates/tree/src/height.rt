@@ -10,16 +10,12 @@ const GREATEST: u32 = 20;
 pub fn is_height(height: u32) -> bool
     ensures { result ≡ legal_height height }
 {
-    height >= LEAST && height <= GREATEST
+    (LEAST..=GREATEST).contains(&height)
 }
 
 // Whether a tree of this height has a leaf of this number.
 pub fn has_leaf(height: u32, number: u32) -> bool
     ensures { result ≡ nat_lt number (2 ^ height) }
 {
-    if height < u32::BITS {
-        number >> height == 0
-    } else {
-        true
-    }
+    number.checked_shr(height).unwrap_or(0) == 0
 }

@@ -1,6 +1,7 @@
 ghost use Rattle.std.specs.Prelude.{◌≡◌, Some};
 ghost use Rattle.tree.specs.Kinds.{kind_byte, node_width, kind_name, Decodes, unknown_text};
 
+use crate::{dummy, sealed};
 use std::error::Error;
 use std::fmt;
 
@@ -17,8 +18,8 @@ impl Kind {
         ensures { result ≡ node_width self }
     {
         match self {
-            Kind::Sealed => 32,
-            Kind::Dummy => 5,
+            Kind::Sealed => sealed::WIDTH,
+            Kind::Dummy => dummy::WIDTH,
         }
     }
 }

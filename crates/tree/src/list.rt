@@ -1,5 +1,5 @@
 ghost use Rattle.std.specs.Prelude.{◌≡◌};
-ghost use Rattle.tree.specs.Entries.{list_supply};
+ghost use Rattle.tree.specs.Entries.{list_supply, Finds};
 ghost use Rattle.tree.specs.Supplying.{list_supplies};
 
 use crate::fault::{Cause, Missing};
@@ -26,6 +26,21 @@ impl<'a> ListSource<'a> {
     {
         ListSource { bytes }
     }
+
+    // The token of a number, or why there is none.
+    fn find(&self, number: u32) -> Result<&[u8], Cause>
+        ensures { Finds (list_supply self.now.bytes.now) number result }
+    {
+        if number >= self.size() {
+            return Err(Cause::Beyond);
+        }
+        let (entries, _) = self.bytes.as_chunks::<ENTRY>();
+        let entry = &entries[number as usize][..];
+        match entry {
+            [PRESENT, token @ ..] => Ok(token),
+            _ => Err(Cause::Torn),
+        }
+    }
 }
 
 impl<'a> Source for ListSource<'a> {
@@ -38,21 +53,14 @@ impl<'a> Source for ListSource<'a> {
     }
 
     fn look_up(&self, number: u32) -> Result<(), Cause> {
-        if number >= self.size() {
-            return Err(Cause::Beyond);
-        }
-        if self.bytes[ENTRY * number as usize] == PRESENT {
-            Ok(())
-        } else {
-            Err(Cause::Torn)
-        }
+        self.find(number).map(|_| ())
     }
 
     fn token(&mut self, number: u32, out: &mut [u8; 32]) -> Result<(), Missing> {
-        self.look_up(number)
+        let token = self
+            .find(number)
             .map_err(|cause| Missing { number, cause })?;
-        let start = ENTRY * number as usize + 1;
-        out.copy_from_slice(&self.bytes[start..start + 32]);
+        out.copy_from_slice(token);
         Ok(())
     }
 }

@@ -13,7 +13,7 @@ pub trait Maker {
 
     ghost meter: { Self → Meter };
 
-    // The byte that names this maker in a strip.
+    // The byte that names this maker in a strip; no `Kind`, since other makers have kinds of their own.
     fn kind(&self) -> u8
         ensures { result ≡ (meaning self.now).kind };
 

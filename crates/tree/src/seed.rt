@@ -1,15 +1,17 @@
-ghost use Rattle.std.specs.Prelude.{◌≡◌, ◌++◌};
-ghost use Rattle.tree.specs.Numbers.{number_bytes};
+ghost use Rattle.std.specs.Prelude.{◌≡◌};
 ghost use Rattle.tree.specs.Seeds.{seed_supply, Reseeds};
 ghost use Rattle.tree.specs.Supplying.{seed_supplies};
 
 use crate::fault::{Cause, Missing, TooShort};
-use crate::row::lay;
+use crate::row::in_row;
 use crate::source::Source;
 use hashing::digest;
 
 // How many bytes a seed has.
 const SEED: usize = 32;
+
+// How many bytes a token is the hash of: the seed and a number.
+const SEEDED: usize = SEED + 4;
 
 // How many tokens a seed yields.
 const TOKENS: u32 = 1 << 20;
@@ -17,11 +19,11 @@ const TOKENS: u32 = 1 << 20;
 // Tokens from a secret seed.
 #[derive(Drop)]
 pub struct SeedSource {
-    seed: [u8; 32],
+    seed: [u8; SEED],
 }
 
 impl SeedSource {
-    pub fn new(seed: [u8; 32]) -> SeedSource
+    pub fn new(seed: [u8; SEED]) -> SeedSource
         ensures { result.seed ≡ seed }
     {
         SeedSource { seed }
@@ -31,10 +33,8 @@ impl SeedSource {
     pub fn reseed(&mut self, seed: &[u8]) -> Result<(), TooShort>
         ensures { Reseeds self.old.seed seed.now self.new.seed result }
     {
-        if seed.len() < SEED {
-            return Err(TooShort { needed: SEED });
-        }
-        self.seed.copy_from_slice(&seed[0..SEED]);
+        let front = seed.first_chunk::<SEED>().ok_or(TooShort { needed: SEED })?;
+        self.seed.copy_from_slice(front);
         Ok(())
     }
 }
@@ -59,16 +59,7 @@ impl Source for SeedSource {
     fn token(&mut self, number: u32, out: &mut [u8; 32]) -> Result<(), Missing> {
         self.look_up(number)
             .map_err(|cause| Missing { number, cause })?;
-        *out = digest(&with_number(&self.seed, number));
+        *out = digest(&in_row::<SEEDED>(&self.seed, &number.to_be_bytes()));
         Ok(())
     }
-}
-
-// A seed and a number after it.
-fn with_number(seed: &[u8; 32], number: u32) -> [u8; 36]
-    ensures { result ≡ seed.now ++ number_bytes number }
-{
-    let mut row = [0; 36];
-    lay(&mut row, seed, &number.to_be_bytes());
-    row
 }

@@ -1,4 +1,3 @@
-use Rattle.std.proofs.Common.{sym, rules}
 use Rattle.tree.proofs.Rows.{sizes_of}
 use Rattle.tree.proofs.geometry.size.Goals as goal
 
