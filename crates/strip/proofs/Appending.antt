@@ -1,7 +1,7 @@
 -- Bytes put one after another.
-use Rattle.std.proofs.Common.{◌≡◌, ℕ, ◌+◌, ◌-◌, ◌<◌, ◌≤◌, List, [], ◌∷◌, ◌++◌, length, get_or, take, drop, Ok, Err, Result, sym, refl, ap, ◌∙◌, ap₂, add-zero, arith, length-append}
+use Rattle.std.proofs.Common.{◌≡◌, ℕ, ◌+◌, ◌-◌, ◌<◌, ◌≤◌, List, [], ◌∷◌, ◌++◌, length, get_or, take, drop, Ok, Err, Result, sym, refl, ap, ◌∙◌, ap₂, add-zero, arith, length-append, length-take, length-drop}
 use borrow.Rule.Slice.PartMut.{put_mid}
-use Rattle.std.proofs.lemmas.List.{append-nil, append_assoc, drop-drop, drop_all, take-append-drop, take_more, flat_map_more}
+use Rattle.std.proofs.lemmas.List.{append-nil, append_assoc, drop-drop, drop_all, take-append-drop, length-take-le, take_more, flat_map_more}
 use Rattle.std.proofs.lemmas.Slice.{take-put_mid, drop-put_mid}
 use Rattle.tree.specs.declared.fault.TooShort.{TooShort}
 use Rattle.tree.specs.Meaning.{Meaning, Puts}
@@ -49,3 +49,11 @@ path_bytes_more m nodes i x lt is =
     flat_map_more m.put [] (take i nodes) x
     ∙ ap (λ y. path_bytes m (take i nodes ++ y ∷ [])) is
     ∙ ap (path_bytes m) (sym (take_more nodes i x lt))
+
+-- what is appended inside a slice leaves its length
+pub appends_length : {before bytes later : List ℕ} {at end : ℕ} → Appends before at bytes later end → end ≤ length before → length later ≡ length before
+appends_length {before} {bytes} {later} {at} {end} put room =
+    let last = put.end_is in
+    let front = sym (length-take end later) ∙ ap length put.front ∙ length-append (take at before) bytes ∙ ap (λ k. k + length bytes) (length-take-le at before (omega arith)) in
+    let back = sym (length-drop end later) ∙ ap length put.back ∙ length-drop end before in
+    omega arith

@@ -1,3 +1,4 @@
+pub mod Chunks
 pub mod Rules
 pub mod Faultless
 pub mod Filling

@@ -1,5 +1,5 @@
 -- The bytes of a strip have no fault and hold what was written.
-use Rattle.std.proofs.Common.{◌≡◌, ℕ, ◌*◌, ◌^◌, ◌<◌, Bool, true, ltb, List, [], ◌∷◌, ◌++◌, length, get_or, take, drop, Some, None, Ok, sym, refl, ap, ◌∙◌, subst, ap₂, ⊎_elim, arith, length-append, pow_mono}
+use Rattle.std.proofs.Common.{◌≡◌, ℕ, ◌*◌, ◌^◌, ◌<◌, ◌≤◌, ◌+◌, Bool, true, ltb, List, [], ◌∷◌, ◌++◌, length, get_or, take, drop, Some, None, Ok, sym, refl, ap, ◌∙◌, subst, ap₂, ⊎_elim, arith, length-append, pow_mono}
 use Rattle.std.proofs.lemmas.List.{take_at, drop_at, get_or_at, append-nil, append_assoc, drop-drop, length-take-le}
 use Rattle.std.proofs.lemmas.Bool.{and_parts, leb-true, ltb-true, eq-eqb, cases_Bool, cond-true, cond-false}
 use Rattle.tree.specs.Meaning.{Meaning, Lawful}
@@ -8,7 +8,7 @@ use Rattle.tree.specs.Path.{path_bytes, nodes_of}
 use Rattle.tree.proofs.Nodes.{length_path_bytes, nodes_of_path_bytes}
 use Rattle.tree.specs.Numbering.{number_at_bytes}
 use Rattle.strip.specs.Format.{strip_bytes, height_in, number_in, token_in, first_broken, head_rules, token_rules, count_rules, node_rules}
-use Rattle.strip.specs.Calls.{strip_length, Holds, write_checks, Refuses, Appends, Writes}
+use Rattle.strip.specs.Calls.{strip_length, Holds, write_checks, write_refusal, Refuses, Appends, Writes}
 use Rattle.tree.specs.Refusals.{first_refusal}
 use Rattle.strip.specs.declared.refusal.Refusal.{Refusal}
 use Rattle.strip.proofs.Appending.{appends_then, appends_all, appends_front}
@@ -112,6 +112,25 @@ passed (check ∷ checks) e =
     absurd (omega arith))
     (cases_Bool check.0)
 
+-- what the checks leave room for
+pub record Fits {N : Type 0} (m : Meaning N) (H n cells secret out : ℕ) : Type 0 where
+  pub legal : legal_height H ≡ true
+  pub below : ltb n (2 ^ H) ≡ true
+  pub path : H ≤ cells
+  pub token : 32 ≤ secret
+  pub strip : 41 + H * m.width ≤ out
+
+pub fits : {N : Type 0} (m : Meaning N) (H n cells secret out : ℕ) → write_refusal m H n cells secret out ≡ None → Fits m H n cells secret out
+fits m H n cells secret out e =
+    let checks = passed (write_checks m H n cells secret out) e in
+    record {
+      legal = checks.0;
+      below = checks.1.0;
+      path = leb-true H cells checks.1.1.0;
+      token = leb-true 32 secret checks.1.1.1.0;
+      strip = leb-true (strip_length m H) out checks.1.1.1.1.0;
+    }
+
 -- the parts of a strip, put one after another
 pub strip_row : {N : Type 0} (m : Meaning N) (H n k : ℕ) (num secret : List ℕ) (siblings : List N) {out a b c d e f : List ℕ} {p q r s t u : ℕ} →
     k ≡ m.kind → num ≡ number_bytes n →
@@ -130,13 +149,13 @@ pub written : {N : Type 0} (m : Meaning N) → Lawful m → (H n : ℕ) (sibling
     Appends before 0 (strip_bytes m H n (take 32 secret) (take H siblings)) later end →
     Writes m H n siblings secret before later (Ok long)
 written m ok H n siblings secret before later long end room all =
-    let checks = passed (write_checks m H n (length siblings) (length secret) (length before)) room.0 in
-    let cells = length-take-le H siblings (leb-true H (length siblings) checks.1.1.0) in
-    let token = length-take-le 32 secret (leb-true 32 (length secret) checks.1.1.1.0) in
+    let all_fits = fits m H n (length siblings) (length secret) (length before) room.0 in
+    let cells = length-take-le H siblings all_fits.path in
+    let token = length-take-le 32 secret all_fits.token in
     let size = length_strip m ok H n (take 32 secret) (take H siblings) token cells in
     let last = all.end_is in
     let at : end ≡ long = let needed = room.1 in omega arith in
     let now-is = appends_all all ∙ ap (λ k. strip_bytes m H n (take 32 secret) (take H siblings) ++ drop k before) at in
     let front = sym (ap (λ k. take k later) (sym at) ∙ appends_front all) in
-    let whole = holds m ok H n (take 32 secret) (take H siblings) token cells checks.0 checks.1.0 in
+    let whole = holds m ok H n (take 32 secret) (take H siblings) token cells all_fits.legal all_fits.below in
     (room.0, room.1, now-is, subst (λ bs. Holds m bs H n (take 32 secret) (take H siblings)) front whole)

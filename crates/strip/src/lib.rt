@@ -3,10 +3,9 @@
 // Proof strips: written, read, and checked against the root of a tree.
 pub mod check;
 pub mod figures;
-pub mod foreign;
 pub mod hex;
 pub mod judge;
-mod layout;
+pub mod layout;
 pub mod parse;
 pub mod read;
 pub mod refusal;

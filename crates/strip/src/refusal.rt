@@ -34,6 +34,18 @@ pub enum Refusal {
 }
 
 impl Section {
+    ghost use Rattle.strip.specs.Format.{fault};
+
+    // A fault in this section.
+    pub fn at(self, place: usize) -> Fault
+        ensures { result ≡ fault place self }
+    {
+        Fault {
+            place,
+            section: self,
+        }
+    }
+
     // The sections count from 1. The number stands for a section in answers alone.
     pub fn number(self) -> u8
         ensures { result ≡ section_number self }

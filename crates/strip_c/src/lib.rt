@@ -1,18 +1,31 @@
-//! The three calls for C: those of `strip::foreign`, under the names that `include/strips.h` declares.
+//! The three calls for C, under the names that `include/strips.h` declares.
 
 #![tactic(auto)]
 
-ghost use Rattle.std.specs.Prelude.{◌≡◌};
-ghost use Rattle.strip.specs.Foreign.{AcceptsSealed, ChecksSealed, length_or_0, size_or_0};
+ghost use Rattle.std.specs.Prelude.{◌≡◌, ◌≢◌, IfSome, IsNone};
+ghost use Rattle.tree.specs.Kinds.{kind_byte};
+ghost use Rattle.tree.specs.declared.kind.Kind.{Kind};
+ghost use Rattle.strip_c.specs.Foreign.{AcceptsSealed, ChecksSealed, length_or_0, size_or_0};
 
-use strip::foreign;
+use strip::judge::judge_with;
+use strip::layout::strip_length;
+use strip::refusal::Refusal;
+use tree::geometry::size;
+use tree::height::is_height;
+use tree::kind::Kind;
+use tree::sealed::Sealed;
+
+// What a check answers. The C interface fixes these numbers and the 0 of the two lengths.
+const YES: u32 = 0;
+
+const NO: u32 = 100;
 
 // How many cells the table of a traversal has; 0 for heights that no tree or no subtree has.
 #[unsafe(no_mangle)]
 pub extern "C" fn strips_table_size(height: u32, subtree: u32) -> u64
     ensures { result ≡ size_or_0 height subtree }
 {
-    foreign::strips_table_size(height, subtree)
+    size(height, subtree).map_or(0, |cells| cells as u64)
 }
 
 // How many bytes a strip has; 0 for a kind or a height that no strip has.
@@ -20,7 +33,18 @@ pub extern "C" fn strips_table_size(height: u32, subtree: u32) -> u64
 pub extern "C" fn strips_strip_length(kind: u32, height: u32) -> u64
     ensures { result ≡ length_or_0 kind height }
 {
-    foreign::strips_strip_length(kind, height)
+    match kind_of(kind) {
+        Some(kind) if is_height(height) => strip_length(height, kind.width()) as u64,
+        _ => 0,
+    }
+}
+
+// The kind of a number, if it is one's.
+fn kind_of(number: u32) -> Option<Kind>
+    ensures named { IfSome result (λ kind. kind_byte kind ≡ number) }
+    ensures none { IsNone result → (kind : Kind) → kind_byte kind ≢ number }
+{
+    Kind::try_from(u8::try_from(number).ok()?).ok()
 }
 
 // Whether a sealed strip leads to a root of 32 bytes: 0 for yes and 100 for no, or the number of the
@@ -30,5 +54,13 @@ pub extern "C" fn strips_check(strip: &[u8], root: &[u8]) -> u32
     ensures answer { ChecksSealed strip.now root.now result }
     ensures full_tree { AcceptsSealed strip.now root.now result }
 {
-    foreign::strips_check(strip, root)
+    let width = Kind::Sealed.width();
+    if root.len() != width {
+        return u32::from(Refusal::Short(width).number());
+    }
+    match judge_with(&mut Sealed::new(), root, strip) {
+        Ok(true) => YES,
+        Ok(false) => NO,
+        Err(refusal) => u32::from(refusal.number()),
+    }
 }
