@@ -1,4 +1,5 @@
 pub mod Plotting
+pub mod Homes
 pub mod Sections
 pub mod Advancing
 pub mod Beginning

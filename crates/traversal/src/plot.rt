@@ -1,6 +1,8 @@
-ghost use Rattle.std.specs.Prelude.{◌≡◌, ◌≤◌};
+ghost use Rattle.std.specs.Prelude.{◌≡◌, ◌+◌, ◌-◌, ◌<◌, ◌≤◌, length, slice_index_or, slice_set};
 ghost use Rattle.tree.specs.Geometry.{subtree_cells};
-ghost use Rattle.traversal.specs.Plots.{row_start};
+ghost use Rattle.traversal.specs.Plots.{row_start, cell_of, on_stack};
+
+use crate::tail::{push_on, top_of};
 
 // The layout of one growing tree in the table: which of its nodes have a cell of their own, where these
 // cells lie, and where the stack of the other nodes starts.
@@ -23,7 +25,48 @@ pub(crate) enum Home {
     Root,
     // In the section of a subtree.
     Subtree { start: usize, offset: usize },
-    Stack,
+    // On top of the stack, which starts there.
+    Stack { tail: usize },
+}
+
+impl Home {
+    // Puts a node there; answers how many nodes are on the stack then.
+    pub(crate) fn put<N: Copy>(self, table: &mut [N], stacked: usize, node: N) -> usize
+        requires { cell_of self stacked < length table.old }
+        ensures table { table.new ≡ slice_set table.old (cell_of self stacked) node }
+        ensures stacked { result ≡ stacked + on_stack self }
+    {
+        match self {
+            Home::Root => {
+                table[0] = node;
+                stacked
+            }
+            Home::Subtree { start, offset } => {
+                let section = &mut table[start..];
+                section[offset] = node;
+                stacked
+            }
+            Home::Stack { tail } => push_on(&mut table[tail..], stacked, node),
+        }
+    }
+
+    // Takes the node from there; answers it and how many nodes are on the stack then.
+    pub(crate) fn take<N: Copy>(self, table: &mut [N], stacked: usize) -> (N, usize)
+        requires stacked { on_stack self ≤ stacked }
+        requires room { cell_of self (stacked - on_stack self) < length table.old }
+        ensures value { result.0 ≡ slice_index_or table.old (cell_of self (stacked - on_stack self)) result.0 }
+        ensures stacked { result.1 ≡ stacked - on_stack self }
+        ensures table { table.new ≡ table.old }
+    {
+        match self {
+            Home::Root => (table[0], stacked),
+            Home::Subtree { start, offset } => {
+                let section = &table[start..];
+                (section[offset], stacked)
+            }
+            Home::Stack { tail } => (top_of(&mut table[tail..], stacked), stacked - 1),
+        }
+    }
 }
 
 // The cells of a subtree.

@@ -50,7 +50,7 @@ impl Growing {
         let mut token = [0; 32];
         lent.source.token(leaves, &mut token)?;
         let node = lent.maker.leaf(leaves, &token);
-        let stacked = self.store(lent.table, stacked, 0, leaves, node);
+        let stacked = self.home(0, leaves).put(lent.table, stacked, node);
         self.hash = Treehash {
             leaves: leaves + 1,
             joins,
@@ -75,10 +75,12 @@ impl Growing {
             stacked,
         } = self.hash;
         let index = (leaves - 1) >> height;
-        let (right, stacked) = self.fetch(lent.table, stacked, height, index);
-        let (left, stacked) = self.fetch(lent.table, stacked, height, index - 1);
+        let (right, stacked) = self.home(height, index).take(lent.table, stacked);
+        let (left, stacked) = self.home(height, index - 1).take(lent.table, stacked);
         let node = lent.maker.join(left, right);
-        let stacked = self.store(lent.table, stacked, height + 1, index / 2, node);
+        let stacked = self
+            .home(height + 1, index / 2)
+            .put(lent.table, stacked, node);
         self.hash = Treehash {
             leaves,
             joins: joins + 1,

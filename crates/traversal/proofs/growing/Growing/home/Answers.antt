@@ -1,4 +1,4 @@
-use Rattle.std.proofs.Common.{◌≡◌, ℕ, ◌-◌, ◌*◌, ◌/◌, ◌%◌, ◌^◌, ◌<◌, ◌≤◌, false, ap, inl, inr, ⊎_elim, arith}
+use Rattle.std.proofs.Common.{◌≡◌, ℕ, ◌-◌, ◌*◌, ◌/◌, ◌%◌, ◌^◌, ◌<◌, ◌≤◌, false, ap, inl, inr, ⊎_elim, arith, refl}
 use Rattle.std.proofs.lemmas.Nat.{one_shl}
 use Rattle.std.proofs.lemmas.Bool.{cases_Bool}
 use Rattle.tree.specs.Geometry.{subtree_cells}
@@ -25,17 +25,12 @@ returns-then-height-plot-2 c =
     let h = c.args.self.now.plot.subtree in
     let r = c.args.height % h in
     let few = low_row c.args.self.now.plot c.args.self.now.legal c.args.height in
-    homeless c.args.self.now.plot c.args.self.now.legal c.args.height c.args.index c.if-height-plot.false
+    let none = homeless c.args.self.now.plot c.args.self.now.legal c.args.height c.args.index c.if-height-plot.false
     (λ q. elim c.then-height-plot-2.branch [
       | then-height-plot-2-via-then-height-plot-2 w ↦ omega (arith, q.0)
       | then-height-plot-2-via-else-height-plot-2+then-index-plot w ↦ omega (arith, q.1.1, one_shl (h - r) 32 (omega (arith, c.args.self.now.legal.greatest)), w.if-index-plot.true)
-    ])
-
-pub overflow_add-result : goal.overflow_add-result
-overflow_add-result c =
-    let less : c.args.height < c.args.self.now.plot.top = omega (arith, c.requires.0) in
-    let row = ap (λ n. c.args.height / c.args.self.now.plot.subtree * n) c.section_cells.ensures in
-    omega (arith, section_inside c.args.self.now.plot c.args.self.now.legal c.args.height less, row)
+    ]) in
+    (none, refl)
 
 pub returns : goal.returns
 returns c =

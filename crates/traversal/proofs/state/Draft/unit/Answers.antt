@@ -1,19 +1,10 @@
 use Rattle.std.proofs.Common.{length, sym, subst, arith}
 use Rattle.growth.proofs.Counting.{unfinished}
 use Rattle.growth.specs.Places.{Room}
-use Rattle.traversal.specs.Plots.{layout, depth, Legal}
-use Rattle.traversal.specs.Units.{Standing, Unfinished}
-use Rattle.traversal.proofs.Drafting.{draft_legal, draft_room}
+use Rattle.traversal.specs.Plots.{layout, depth}
+use Rattle.traversal.specs.Units.{Unfinished}
+use Rattle.traversal.proofs.Drafting.{draft_room}
 use Rattle.traversal.proofs.state.Draft.unit.Goals as goal
-
-pub invariant_of-tree : goal.invariant_of-tree
-invariant_of-tree g c =
-    let d = c.args.self.now in
-    let is = sym c.plot.ensures in
-    record {
-      legal = subst Legal is (draft_legal d.shape.height d.shape.subtree d.shape.cells d.shape.shaped);
-      standing = subst (λ p. Standing p d.hash) is d.standing;
-    }
 
 pub unit-requires : goal.unit-requires
 unit-requires g c =
