@@ -1,4 +1,5 @@
 #![tactic(auto)]
 
 pub mod answer;
+pub mod damage;
 pub mod hex;

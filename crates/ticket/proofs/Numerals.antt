@@ -113,20 +113,6 @@ module _ (xs mid : List ℕ) (f : ℕ) (some : 1 ≤ f) (low : f ≤ 9) (first :
       let third : get_or xs 2 0 ≡ get_or later 0 0 = ap (λ l. get_or l 2 0) both in
       (2, omega arith, number_after_two xs f some low here (ap (λ l. get_or l 0 0) first) s small (omega arith) (ap (λ l. get_or l 1 0) both) (λ lt e. no_end (omega arith) (sym third ∙ e)))
 
--- a number was read
-pub read_one : (f : ℕ) (old mid new : List ℕ) → f ≤ 9 → old ≡ (48 + f) ∷ mid → mid ≡ codes "\n" ++ new → old ≡ number_line f ++ new
-read_one f old mid new low first end = first ∙ ap (λ l. (48 + f) ∷ l) end ∙ ap (λ l. l ++ new) (sym (one_digit f (omega arith)))
-
-pub read_two : (f s : ℕ) (old mid later new : List ℕ) → 1 ≤ f → s ≤ 9 → old ≡ (48 + f) ∷ mid → mid ≡ (48 + s) ∷ later → later ≡ codes "\n" ++ new → old ≡ number_line (10 * f + s) ++ new
-read_two f s old mid later new some small first second end =
-    let n : ℕ = 10 * f + s in
-    let tens : 48 + f ≡ 48 + n / 10 = omega arith in
-    let units : 48 + s ≡ 48 + n % 10 = omega arith in
-    first
-    ∙ ap (λ l. (48 + f) ∷ l) (second ∙ ap (λ l. (48 + s) ∷ l) end)
-    ∙ (λ i. tens i ∷ units i ∷ 10 ∷ new)
-    ∙ ap (λ l. l ++ new) (sym (two_digits n (omega arith)))
-
 -- the digits' values
 pub decimal_is : (b v : ℕ) → Some v ≡ decimal_value b → (b ≡ 48 + v) × (v ≤ 9)
 decimal_is b v e = grind (arith, nat_tests)

@@ -41,10 +41,6 @@ word_fails Good word xs k within a good same reach differs = record {
       (differs b gb front).1 (omega arith) (ap (λ l. get_or l k 0) e ∙ get_or_append_left (word b) ys 0 k inside);
 }
 
--- a word that was found byte by byte
-pub word_found : (word xs : List ℕ) → take (length word) xs ≡ take (length word) word → xs ≡ word ++ drop (length word) xs
-word_found word xs same = sym (take-append-drop (length word) xs) ∙ ap (λ l. l ++ drop (length word) xs) (same ∙ take_all (length word) word (omega arith))
-
 -- a list with a first byte
 pub front : (xs : List ℕ) → 0 < length xs → xs ≡ get_or xs 0 0 ∷ drop 1 xs
 front [] some = absurd (omega arith)

@@ -47,11 +47,3 @@ loop-byte-preserved c =
     let more = reads_byte old (take i seed) left i many (omega arith) inv.2 inv.1 high.0 c.in_ok-high.high c.next.new.self.left.now high.1 high.2.0 low.0 c.in_ok-low.low c.next-in-loop-byte.new.self.left.now low.1 low.2.0 in
     let bytes = each_append (take i seed) (x ∷ []) inv.2 (each_next x [] (byte_fits high.0 low.0 c.in_ok-high.high c.in_ok-low.low high.2.0 low.2.0) (λ j. lit< tt)) in
     (length-set seed i x ∙ inv.0, more ∙ ap (λ l. hex_text l ++ c.next-in-loop-byte.new.self.left.now) (sym grown), λ j. subst (λ l. get_or l j 0 < 256) (sym grown) (bytes j))
-
-pub returns : goal.returns
-returns c =
-    let inv = c.loop-byte.invariant in
-    let seed : List ℕ = c.loop-byte.seed in
-    let size = inv.0 in
-    let whole = take_all c.loop-byte.byte-index seed (omega arith) in
-    ((inv.0, subst (λ l. (j : ℕ) → get_or l j 0 < 256) whole inv.2), inv.1 ∙ ap (λ l. hex_text l ++ c.loop-byte.self.left.now) whole)
