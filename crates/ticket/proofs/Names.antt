@@ -5,7 +5,6 @@ use Rattle.tree.specs.declared.kind.Kind.{Kind}
 use Rattle.tree.specs.declared.kind.Kind.TheVariants.{Sealed, Dummy}
 use Rattle.ticket.specs.Texts.{kind_line}
 use Rattle.ticket.specs.Pieces.{WrongWord}
-use Rattle.ticket.proofs.Words.{word_fails}
 
 -- a name is known by its first byte
 by_first : (a b : Kind) → get_or (kind_line a) 0 0 ≡ get_or (kind_line b) 0 0 → a ≡ b

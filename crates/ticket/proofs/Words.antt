@@ -1,7 +1,7 @@
 -- Words that stand in a text, and where they fail.
 use Rattle.std.proofs.Common.{◌≡◌, ℕ, zero, suc, ◌+◌, ◌<◌, ◌≤◌, Bool, true, false, not, List, [], ◌∷◌, ◌++◌, length, get_or, take, drop, codes, Some, None, Option, Ok, Err, Result, IsSome, unwrap_or, is_ok, Bor, sym, refl, ap, ◌∙◌, arith, length-append}
 use Rattle.std.specs.Option.{option_map, option_eq}
-use Rattle.std.proofs.lemmas.List.{take-append-drop, take_all, take-take, take-append-le, length-take-le, get_or-take, get_or_append_left}
+use Rattle.std.proofs.lemmas.List.{take-append-drop, take-take, take-append-le, length-take-le, get_or-take, get_or_append_left}
 use Rattle.ticket.specs.declared.reader.Wrong.{Wrong}
 use Rattle.ticket.specs.Pieces.{WrongWord, LiteralRead}
 

@@ -28,11 +28,15 @@ abbrev pub spot_after : List ℕ → ℕ → ℕ → ℕ × ℕ
 spot_after [] line column = (line, column)
 spot_after (x ∷ xs) line column = cond (x == 10) (spot_after xs (line + 1) 0) (spot_after xs line (column + 1))
 
--- Reading the fields: what the text says, and its seed; or how many bytes are left where it goes wrong.
-abbrev pub FieldsRead : List ℕ → List ℕ → Result Job Wrong → Type 0
-FieldsRead bs seed (Ok job) =
+-- bytes are a ticket that says what a job asks for, and its seed
+abbrev pub Says : List ℕ → Job → List ℕ → Type 0
+Says bs job seed =
     (t : Ticket) × Sayable t × (bs ≡ ticket_text t)
     × (job.kind ≡ t.kind) × (job.height ≡ t.height) × (job.subtree ≡ t.subtree) × (seed ≡ t.seed)
+
+-- Reading the fields: what the text says, and its seed; or how many bytes are left where it goes wrong.
+abbrev pub FieldsRead : List ℕ → List ℕ → Result Job Wrong → Type 0
+FieldsRead bs seed (Ok job) = Says bs job seed
 FieldsRead bs seed (Err wrong) = WrongLeft IsTicket bs wrong.left
 
 -- A scratch of 32 bytes or more is left with its first 32 bytes zero and the rest as it was.
@@ -44,18 +48,13 @@ left_in scratch = cond (nat_lt (length scratch) 32) scratch (wiped scratch)
 
 -- Unpacking a ticket: what it says, and its seed in the source; or where it goes wrong, and the source as it was.
 abbrev pub Unpacks : List ℕ → List ℕ → List ℕ → Result Job Wrong → Type 0
-Unpacks bs before later (Ok job) =
-    (t : Ticket) × Sayable t × (bs ≡ ticket_text t)
-    × (job.kind ≡ t.kind) × (job.height ≡ t.height) × (job.subtree ≡ t.subtree) × (later ≡ t.seed)
+Unpacks bs before later (Ok job) = Says bs job later
 Unpacks bs before later (Err wrong) = WrongLeft IsTicket bs wrong.left × (later ≡ before)
 
 -- Reading a ticket: what it says, and its seed in the source; or, with the source as it was, that the scratch
 -- is too short, which comes first, or where the text goes wrong.
 abbrev pub Answers : List ℕ → List ℕ → List ℕ → List ℕ → Result Job Refusal → Type 0
-Answers bs scratch before later (Ok job) =
-    (32 ≤ length scratch)
-    × ((t : Ticket) × Sayable t × (bs ≡ ticket_text t)
-    × (job.kind ≡ t.kind) × (job.height ≡ t.height) × (job.subtree ≡ t.subtree) × (later ≡ t.seed))
+Answers bs scratch before later (Ok job) = (32 ≤ length scratch) × Says bs job later
 Answers bs scratch before later (Err (Short needed)) = (length scratch < 32) × (needed ≡ 32) × (later ≡ before)
 Answers bs scratch before later (Err (NoTicket spot)) =
     (32 ≤ length scratch)

@@ -52,14 +52,13 @@ fn tell<D: Display + Copy>(rt: &HostRuntime, what: D, text: &[u8]) -> anyhow::Re
     let mut scratch = [255; 40];
     let mut source = SeedSource::new([0; 32]);
     match read(text, &mut scratch, &mut source) {
-        Ok(
-            Job {
+        Ok(job) => {
+            let token = first_token(&mut source);
+            let Job {
                 kind,
                 height,
                 subtree,
-            },
-        ) => {
-            let token = first_token(&mut source);
+            } = job;
             println!(rt; "{what}: {kind} {height} {subtree} {token}")?;
         }
         Err(refusal) => println!(rt; "{what}: {refusal}")?,
