@@ -1,4 +1,7 @@
-ghost use Rattle.std.specs.Prelude.{◌≡◌, ◌+◌, ◌*◌, ◌≤◌};
+ghost use Rattle.std.specs.Prelude.{◌≡◌};
+ghost use Rattle.strip.specs.Calls.{strip_length};
+
+use tree::maker::Maker;
 
 // The count bytes of a strip's first two sections, and the length of a token.
 pub(crate) const HEAD_COUNT: u8 = 6;
@@ -20,10 +23,9 @@ pub(crate) const PATH_PLACE: usize = 40;
 
 pub(crate) const NODES_PLACE: usize = 41;
 
-// How many bytes a strip has in a tree of this height, where a node has so many bytes.
-pub fn strip_length(height: u32, width: usize) -> usize
-    requires { width ≤ 32 }
-    ensures { result ≡ 41 + height * width }
+// How many bytes a strip of a maker has in a tree of this height.
+pub fn strip_length<M: Maker>(maker: &M, height: u32) -> usize
+    ensures { result ≡ strip_length (M.meaning maker.now) height }
 {
-    NODES_PLACE + height as usize * width
+    NODES_PLACE + height as usize * maker.width()
 }

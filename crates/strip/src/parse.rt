@@ -85,7 +85,7 @@ fn only_nodes<M: Maker>(maker: &M, bytes: &[u8], height: u32) -> Result<(), Faul
             return Err(Section::Path.at(NODES_PLACE + i * width));
         }
     }
-    let end = strip_length(height, width);
+    let end = strip_length(maker, height);
     if bytes.len() == end {
         Ok(())
     } else {

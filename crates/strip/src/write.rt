@@ -57,7 +57,7 @@ fn room<M: Maker>(
     if token < TOKEN_LENGTH {
         return Err(Refusal::Short(TOKEN_LENGTH));
     }
-    let needed = strip_length(height, maker.width());
+    let needed = strip_length(maker, height);
     if out < needed {
         return Err(Refusal::Short(needed));
     }

@@ -10,6 +10,7 @@ ghost use Rattle.strip_c.specs.Foreign.{AcceptsSealed, ChecksSealed, length_or_0
 use strip::judge::judge_with;
 use strip::layout::strip_length;
 use strip::refusal::Refusal;
+use tree::dummy::Dummy;
 use tree::geometry::size;
 use tree::height::is_height;
 use tree::kind::Kind;
@@ -33,9 +34,13 @@ pub extern "C" fn strips_table_size(height: u32, subtree: u32) -> u64
 pub extern "C" fn strips_strip_length(kind: u32, height: u32) -> u64
     ensures { result ≡ length_or_0 kind height }
 {
+    if !is_height(height) {
+        return 0;
+    }
     match kind_of(kind) {
-        Some(kind) if is_height(height) => strip_length(height, kind.width()) as u64,
-        _ => 0,
+        Some(Kind::Sealed) => strip_length(&Sealed::new(), height) as u64,
+        Some(Kind::Dummy) => strip_length(&Dummy::new(), height) as u64,
+        None => 0,
     }
 }
 

@@ -1,5 +1,5 @@
 -- Spans as the dummy maker's nodes.
-use Rattle.std.specs.Prelude.{replicate, ◌&&◌, ◌≡◌, ℕ, ◌<◌, Bool, true, false, cond, List, [], ◌∷◌, ◌++◌, length, Some, None, ◌==◌, slice_index, refl}
+use Rattle.std.specs.Prelude.{replicate, ◌&&◌, ◌≡◌, ℕ, ◌<◌, ◌≤◌, Bool, true, false, cond, List, [], ◌∷◌, ◌++◌, length, take, Some, None, ◌==◌, slice_index, refl}
 use Rattle.std.proofs.Common.{eqb, sym, ap, ap₂, ◌∙◌, ⊎_elim, arith, lit<, lit≤}
 use mathlib.Core.HLevel.{is_prop→PathP}
 use Rattle.std.proofs.Math.Bool.{Bool-set}
@@ -40,6 +40,15 @@ pub read_whole : (bs : List ℕ) → are_broken bs ≡ false → aligned (number
 read_whole bs sound whole =
     cond-false (are_broken bs) (Some Broken) _ sound
     ∙ cond-true (aligned (number_at 0 bs) (slice_index bs 4)) (Some (span (number_at 0 bs) (slice_index bs 4))) None whole
+
+-- only the first five bytes count
+pub read_front : (bs : List ℕ) → 5 ≤ length bs → read_span (take 5 bs) ≡ read_span bs
+read_front [] h = absurd (omega arith)
+read_front (_ ∷ []) h = absurd (omega arith)
+read_front (_ ∷ _ ∷ []) h = absurd (omega arith)
+read_front (_ ∷ _ ∷ _ ∷ []) h = absurd (omega arith)
+read_front (_ ∷ _ ∷ _ ∷ _ ∷ []) h = absurd (omega arith)
+read_front (a ∷ b ∷ c ∷ d ∷ e ∷ rest) h = refl
 
 -- what holds of any five elements holds of a list of five
 pub with_five : (P : List ℕ → Type 0) → ((a b c d e : ℕ) → P (a ∷ b ∷ c ∷ d ∷ e ∷ [])) → (bs : List ℕ) → length bs ≡ 5 → P bs

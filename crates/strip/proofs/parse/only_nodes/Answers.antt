@@ -51,14 +51,14 @@ returns-then-bytes-end g c =
     let m = g.M.Maker.meaning c.args.maker.now in
     let held = c.loop-i.invariant in
     ends_whole bs m c.args.height held.passed (omega arith) (λ lt. let short = c.in-None.ensures.steps.0 (omega arith) in omega arith)
-    (c.if-bytes-end.true ∙ c.strip_length-end.ensures ∙ ap (λ w. 41 + c.args.height * w) c.width-width.ensures)
+    (c.if-bytes-end.true ∙ c.strip_length-end.ensures)
 
 pub returns-else-bytes-end : goal.returns-else-bytes-end
 returns-else-bytes-end g c =
     let bs : List ℕ = c.args.bytes.now in
     let m = g.M.Maker.meaning c.args.maker.now in
     let held = c.loop-i.invariant in
-    let end = c.strip_length-end.ensures ∙ ap (λ w. 41 + c.args.height * w) c.width-width.ensures in
+    let end = c.strip_length-end.ensures in
     ends_other bs m c.args.height held.passed (omega arith) (λ lt. let short = c.in-None.ensures.steps.0 (omega arith) in omega arith)
     (λ same. c.if-bytes-end.false (same ∙ sym end))
     ∙ ap (λ p. Some (fault p Path)) (ap (λ e. min e (length bs)) (sym end) ∙ sym c.min.ensures)
