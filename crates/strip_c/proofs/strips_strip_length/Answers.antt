@@ -3,7 +3,7 @@ use Rattle.std.proofs.lemmas.Bool.{ne_eqb}
 use Rattle.tree.specs.declared.kind.Kind.TheVariants.{Sealed, Dummy}
 use Rattle.strip_c.proofs.strips_strip_length.Goals as goal
 
-pub returns-in_default-2 : goal.returns-in_default-2
-returns-in_default-2 c =
-    let none = c.in_default.ensures.none (search rules) in
+pub returns-in-None : goal.returns-in-None
+returns-in-None c =
+    let none = c.kind_of.ensures.none (search rules) in
     rw (ne_eqb c.args.kind 1 (λ e. none Sealed (sym e)), ne_eqb c.args.kind 2 (λ e. none Dummy (sym e))) (search rules)
