@@ -43,6 +43,7 @@ pub enum NoBytes {
     NoMemory,
 }
 
+// By hand, since what thiserror writes has no contract, and that of decode names the error.
 impl From<AllocFailed<u8>> for NoBytes {
     ghost from_gives = { λ _ r. r ≡ NoMemory };
 
