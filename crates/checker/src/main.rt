@@ -1,7 +1,8 @@
+//! Checks a printed proof strip against a root: reads the root and the strip in hex, a line each, and
+//! prints the verdict.
+
 #![tactic(auto)]
 
-// Checks a printed proof strip against a root: reads the root and the strip in hex, a line each, and
-// prints the verdict.
 use anyhow::anyhow;
 use std::io;
 use std::process::ExitCode;
@@ -9,7 +10,7 @@ use strip::judge::judge;
 use text::answer::answer;
 use text::hex::decode;
 
-// The message is printed here, under the program's name, and not by returning the error.
+/// The message is printed here, under the program's name, and not by returning the error.
 fn main(rt: HostRuntime) -> io::Result<ExitCode> {
     if let Err(error) = run(&rt) {
         eprintln!(rt; "checker: {error}")?;

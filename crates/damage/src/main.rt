@@ -1,7 +1,8 @@
+//! Judges every root and strip of the input as they are and after damage to the strip: each byte changed
+//! in turn, every shorter strip, and two longer ones.
+
 #![tactic(auto)]
 
-// Judges every root and strip of the input as they are and after damage to the strip: each byte changed
-// in turn, every shorter strip, and two longer ones.
 use std::alloc::{AllocError, Global};
 use std::fmt::Display;
 use strip::judge::judge;
@@ -9,7 +10,7 @@ use text::answer::answer;
 use text::damage::{each_change, each_cut};
 use text::hex::decode;
 
-// The bits that are inverted in each byte, one at a time.
+/// The bits that are inverted in each byte, one at a time.
 const BITS: [u8; 2] = [1, 128];
 
 fn main(rt: HostRuntime) -> anyhow::Result<()> {

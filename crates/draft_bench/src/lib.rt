@@ -12,17 +12,17 @@ use tree::digest::Digest;
 use tree::sealed::Sealed;
 use tree::seed::SeedSource;
 
-// The tree, and the cells of the table of its traversal.
+/// The tree, and the cells of the table of its traversal.
 const HEIGHT: u32 = 16;
 
 const SUBTREE: u32 = 4;
 
 const CELLS: usize = 225;
 
-// The bytes of a seed and of a digest.
+/// The bytes of a seed and of a digest.
 const DIGEST: usize = 32;
 
-// The bytes that a token is made of, a seed and a number, and those of two nodes.
+/// The bytes that a token is made of, a seed and a number, and those of two nodes.
 const NUMBERED: usize = 36;
 
 const PAIR: usize = 64;
@@ -38,7 +38,7 @@ pub extern "C" fn draft_bench_root(seed: &[u8], out: &mut [u8]) -> bool
     write_front(draft_root(*seed).bytes, out)
 }
 
-// The root of the tree over the tokens of a seed.
+/// The root of the tree over the tokens of a seed.
 fn draft_root(seed: [u8; 32]) -> Digest
     ensures { result ≡ seed_root seed }
 {
@@ -71,7 +71,7 @@ pub extern "C" fn draft_bench_digests(seed: &[u8], out: &mut [u8]) -> bool
     write_front(last_digest(*first), out)
 }
 
-// The last digest of a chain, in which each message begins with the digest of the one before.
+/// The last digest of a chain, in which each message begins with the digest of the one before.
 fn last_digest(first: [u8; 32]) -> [u8; 32] {
     let mut last = first;
     for number in 0..1 << HEIGHT {
@@ -83,7 +83,7 @@ fn last_digest(first: [u8; 32]) -> [u8; 32] {
     last
 }
 
-// A message of a length, which begins with a digest.
+/// A message of a length, which begins with a digest.
 fn message<const N: usize>(front: [u8; 32]) -> [u8; N]
     requires { 32 ≤ N }
 {
@@ -92,7 +92,7 @@ fn message<const N: usize>(front: [u8; 32]) -> [u8; N]
     row
 }
 
-// Writes a digest to the front of `out`, if there is room.
+/// Writes a digest to the front of `out`, if there is room.
 fn write_front(digest: [u8; 32], out: &mut [u8]) -> bool
     ensures short { length out.old < 32 → (result ≡ false) × (out.new ≡ out.old) }
     ensures written { 32 ≤ length out.old → (result ≡ true) × (out.new ≡ digest ++ drop 32 out.old) }

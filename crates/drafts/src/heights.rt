@@ -1,7 +1,7 @@
 use std::fmt;
 use tree::geometry::size;
 
-// The height of a tree and that of its subtrees. Unlike the shape of a traversal they may be refused.
+/// The height of a tree and that of its subtrees. Unlike the shape of a traversal they may be refused.
 #[derive(Clone, Copy)]
 pub struct Heights {
     pub height: u32,
@@ -9,7 +9,7 @@ pub struct Heights {
 }
 
 impl Heights {
-    // How many cells the table has at least; none for heights that are refused.
+    /// How many cells the table has at least; none for heights that are refused.
     pub(crate) fn cells(self) -> usize {
         size(self.height, self.subtree).unwrap_or(0)
     }

@@ -1,7 +1,8 @@
+//! Drafts trees by steps and prints what the calls answer: whole drafts with the cells of their tables, drafts
+//! that lack tokens, and the refusals.
+
 #![tactic(auto)]
 
-// Drafts trees by steps and prints what the calls answer: whole drafts with the cells of their tables, drafts
-// that lack tokens, and the refusals.
 mod entries;
 mod heights;
 mod refused;

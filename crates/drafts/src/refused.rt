@@ -11,7 +11,7 @@ use tree::list::ListSource;
 use tree::sealed::Sealed;
 use tree::source::Source;
 
-// The heights of the drafts here, and the tokens that they take.
+/// The heights of the drafts here, and the tokens that they take.
 const HEIGHTS: Heights = Heights {
     height: 4,
     subtree: 2,
@@ -19,13 +19,13 @@ const HEIGHTS: Heights = Heights {
 
 const TOKENS: u8 = 16;
 
-// The cells of the table.
+/// The cells of the table.
 const CELLS: usize = 19;
 
-// Which token is torn or beyond the source.
+/// Which token is torn or beyond the source.
 const LACKED: u8 = 5;
 
-// Heights, cells of the table and tokens of the source that a draft is begun with.
+/// Heights, cells of the table and tokens of the source that a draft is begun with.
 const BEGINS: [(u32, u32, usize, u8); 14] = [
     (4, 2, CELLS, TOKENS),
     (0, 1, CELLS, TOKENS),
@@ -43,13 +43,13 @@ const BEGINS: [(u32, u32, usize, u8); 14] = [
     (1, 1, 3, 2),
 ];
 
-// The budgets of the steps, one after another, with a short table or without a token.
+/// The budgets of the steps, one after another, with a short table or without a token.
 const BUDGETS: [u64; 4] = [0, u64::MAX, 1, 0];
 
-// After how many units a draft of 31 is turned.
+/// After how many units a draft of 31 is turned.
 const EARLY: [u64; 4] = [0, 1, 10, 30];
 
-// Turns that come too early, after which the draft goes on.
+/// Turns that come too early, after which the draft goes on.
 pub(crate) fn tell_early_turns(rt: &HostRuntime) -> anyhow::Result<()> {
     let bytes = entries(rt.alloc(), TOKENS, None)?;
     for units in EARLY {
@@ -84,7 +84,7 @@ fn tell_early_turn<M: Tried, S: Source + Drop>(
     Ok(())
 }
 
-// Drafts that are begun with some heights, tables and sources, and abandoned at once.
+/// Drafts that are begun with some heights, tables and sources, and abandoned at once.
 pub(crate) fn tell_begins(rt: &HostRuntime) -> anyhow::Result<()> {
     for (height, subtree, cells, tokens) in BEGINS {
         let table = vec![in rt.alloc(); Dummy::FILLER; cells]?;
@@ -96,7 +96,7 @@ pub(crate) fn tell_begins(rt: &HostRuntime) -> anyhow::Result<()> {
     Ok(())
 }
 
-// Steps of a draft with a table that is too short, between two with one that is not.
+/// Steps of a draft with a table that is too short, between two with one that is not.
 pub(crate) fn tell_short_table(rt: &HostRuntime) -> anyhow::Result<()> {
     let bytes = entries(rt.alloc(), TOKENS, None)?;
     let short = vec![in rt.alloc(); Dummy::FILLER; CELLS - 1]?;
@@ -118,7 +118,7 @@ fn tell_two_tables<M: Tried, S: Source + Drop>(
     trial.tell_step("long table", draft, 7)
 }
 
-// Steps of drafts that lack a token.
+/// Steps of drafts that lack a token.
 pub(crate) fn tell_lacks(rt: &HostRuntime) -> anyhow::Result<()> {
     tell_torn(rt, "first token torn", 0)?;
     tell_torn(rt, "token torn", LACKED)?;
@@ -127,13 +127,13 @@ pub(crate) fn tell_lacks(rt: &HostRuntime) -> anyhow::Result<()> {
     tell_lack(rt, "short list", &whole, &short)
 }
 
-// Steps of a draft over a list with a torn token.
+/// Steps of a draft over a list with a torn token.
 fn tell_torn(rt: &HostRuntime, name: &str, number: u8) -> anyhow::Result<()> {
     let torn = entries(rt.alloc(), TOKENS, Some(number))?;
     tell_lack(rt, name, &torn, &torn)
 }
 
-// Begins a draft over one list and steps it over another.
+/// Begins a draft over one list and steps it over another.
 fn tell_lack<'a>(
     rt: &'a HostRuntime,
     name: &str,
@@ -158,7 +158,7 @@ fn tell_steps<M: Tried, S: Source + Drop>(
     Ok(())
 }
 
-// Whole drafts in one call, over a list with a torn token and over one without.
+/// Whole drafts in one call, over a list with a torn token and over one without.
 pub(crate) fn tell_roots(rt: &HostRuntime) -> anyhow::Result<()> {
     for torn in [Some(LACKED), None] {
         let bytes = entries(rt.alloc(), TOKENS, torn)?;

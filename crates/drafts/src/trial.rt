@@ -11,14 +11,14 @@ use traversal::state::Draft;
 use tree::maker::Maker;
 use tree::source::Source;
 
-// How many cells a table has past those that its heights need.
+/// How many cells a table has past those that its heights need.
 const MORE: usize = 2;
 
-// More steps than any draft here takes.
+/// More steps than any draft here takes.
 const STEPS: u64 = 1000;
 
-// What a draft is tried with: the heights that it is begun with, what is lent to its calls, and where its lines
-// go.
+/// What a draft is tried with: the heights that it is begun with, what is lent to its calls, and where its lines
+/// go.
 #[derive(Drop)]
 pub struct Trial<'a, M: Tried, S: Source + Drop> {
     pub rt: &'a HostRuntime,
@@ -29,7 +29,7 @@ pub struct Trial<'a, M: Tried, S: Source + Drop> {
 }
 
 impl<'a, M: Tried, S: Source + Drop> Trial<'a, M, S> {
-    // A trial with a new maker and a table that has some cells more than it needs.
+    /// A trial with a new maker and a table that has some cells more than it needs.
     pub(crate) fn new(
         rt: &'a HostRuntime,
         heights: Heights,
@@ -54,13 +54,13 @@ impl<'a, M: Tried, S: Source + Drop> Trial<'a, M, S> {
         draft.step(&mut self.lent(), budget)
     }
 
-    // The root of a whole draft in one call, and the leaves and the joins made.
+    /// The root of a whole draft in one call, and the leaves and the joins made.
     pub(crate) fn root(&mut self) -> Result<(M::Node, (u64, u64)), Refusal> {
         let Heights { height, subtree } = self.heights;
         root(height, subtree, &mut self.lent())
     }
 
-    // Steps a draft until a step makes nothing.
+    /// Steps a draft until a step makes nothing.
     pub(crate) fn step_to_end(&mut self, draft: &mut Draft, budget: u64) -> Result<Tally, Refusal> {
         let mut tally = Tally::default();
         // a loop has to end, so the steps are bounded
@@ -74,7 +74,7 @@ impl<'a, M: Tried, S: Source + Drop> Trial<'a, M, S> {
         Ok(tally)
     }
 
-    // Turns a draft and closes the run; or abandons the draft, if it cannot be turned.
+    /// Turns a draft and closes the run; or abandons the draft, if it cannot be turned.
     pub(crate) fn end(&self, draft: Draft) -> Result<Ending, AllocError> {
         match draft.turn() {
             Ok(run) => {
@@ -100,7 +100,7 @@ impl<'a, M: Tried, S: Source + Drop> Trial<'a, M, S> {
         }
     }
 
-    // Drafts a tree by steps of one budget.
+    /// Drafts a tree by steps of one budget.
     pub(crate) fn draft_whole(&mut self, budget: u64) -> anyhow::Result<(Tally, Ending)> {
         let mut draft = self.begin()?;
         let tally = self.step_to_end(&mut draft, budget);
@@ -108,17 +108,17 @@ impl<'a, M: Tried, S: Source + Drop> Trial<'a, M, S> {
         Ok((tally?, ending))
     }
 
-    // The leaves and the joins that the maker has made.
+    /// The leaves and the joins that the maker has made.
     pub(crate) fn meter(&self) -> Made {
         self.maker.made().into()
     }
 
-    // A node in hex.
+    /// A node in hex.
     pub(crate) fn hex(&self, node: M::Node) -> Result<String, AllocError> {
         node_hex(self.rt.alloc(), &self.maker, node)
     }
 
-    // Whether the cells past those that the heights need hold what they held before.
+    /// Whether the cells past those that the heights need hold what they held before.
     pub(crate) fn keeps_rest(&self) -> bool {
         self.table
             .iter()
@@ -137,8 +137,8 @@ impl<'a, M: Tried, S: Source + Drop> Trial<'a, M, S> {
         Ok(())
     }
 
-    // Ends a draft and tells what became of it, if its steps could be told. It ends it either way, since no draft
-    // may be let go.
+    /// Ends a draft and tells what became of it, if its steps could be told. It ends it either way, since no draft
+    /// may be let go.
     pub(crate) fn tell_end(
         &self,
         name: &str,
@@ -151,7 +151,7 @@ impl<'a, M: Tried, S: Source + Drop> Trial<'a, M, S> {
         Ok(())
     }
 
-    // What is lent to a call.
+    /// What is lent to a call.
     fn lent(&mut self) -> Lent<'_, '_, '_, M, S> {
         Lent {
             table: &mut self.table,

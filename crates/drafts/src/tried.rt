@@ -5,14 +5,14 @@ use tree::maker::Maker;
 use tree::sealed::Sealed;
 use tree::span::Span;
 
-// What the drafts here need of a maker beside its calls.
+/// What the drafts here need of a maker beside its calls.
 pub trait Tried: Maker + Drop {
     const KIND: Kind;
 
-    // What the cells of a table hold before a draft.
+    /// What the cells of a table hold before a draft.
     const FILLER: Self::Node;
 
-    // A maker that has made nothing.
+    /// A maker that has made nothing.
     fn fresh() -> Self;
 }
 

@@ -7,13 +7,13 @@ use tree::dummy::Dummy;
 use tree::sealed::Sealed;
 use tree::seed::SeedSource;
 
-// The seed of the tokens.
+/// The seed of the tokens.
 const SEED: [u8; 32] = [7; 32];
 
-// How many units a step may make: one, some, or all.
+/// How many units a step may make: one, some, or all.
 const BUDGETS: [u64; 3] = [1, 3, u64::MAX];
 
-// The heights that are drafted by each budget.
+/// The heights that are drafted by each budget.
 const HEIGHTS: [Heights; 4] = [
     Heights {
         height: 1,
@@ -33,7 +33,7 @@ const HEIGHTS: [Heights; 4] = [
     },
 ];
 
-// The heights whose nodes are printed after the draft, and how many cells hold them.
+/// The heights whose nodes are printed after the draft, and how many cells hold them.
 const NODES: [(Heights, usize); 2] = [
     (
         Heights {
@@ -51,7 +51,7 @@ const NODES: [(Heights, usize); 2] = [
     ),
 ];
 
-// The heights whose table is printed after each unit, and the steps, one more than it has units.
+/// The heights whose table is printed after each unit, and the steps, one more than it has units.
 const WATCHED: Heights = Heights {
     height: 4,
     subtree: 1,
@@ -59,7 +59,7 @@ const WATCHED: Heights = Heights {
 
 const STEPS: u32 = 32;
 
-// Drafts of all heights with both makers, by each budget.
+/// Drafts of all heights with both makers, by each budget.
 pub(crate) fn tell_drafts(rt: &HostRuntime) -> anyhow::Result<()> {
     for heights in HEIGHTS {
         for budget in BUDGETS {
@@ -84,7 +84,7 @@ fn tell_draft<M: Tried>(rt: &HostRuntime, heights: Heights, budget: u64) -> anyh
     Ok(())
 }
 
-// The nodes that a draft leaves in its table.
+/// The nodes that a draft leaves in its table.
 pub(crate) fn tell_nodes(rt: &HostRuntime) -> anyhow::Result<()> {
     for (heights, cells) in NODES {
         tell_cells::<Dummy>(rt, heights, cells)?;
@@ -102,7 +102,7 @@ fn tell_cells<M: Tried>(rt: &HostRuntime, heights: Heights, cells: usize) -> any
     Ok(())
 }
 
-// The whole table after each unit of a draft.
+/// The whole table after each unit of a draft.
 pub(crate) fn tell_units(rt: &HostRuntime) -> anyhow::Result<()> {
     let mut trial = Trial::<Dummy, _>::new(rt, WATCHED, SeedSource::new(SEED))?;
     let mut draft = trial.begin()?;

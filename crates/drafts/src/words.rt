@@ -2,7 +2,7 @@ use std::fmt;
 use traversal::outcome::Totals;
 use traversal::refusal::Refusal;
 
-// A number of leaves and one of joins, as a call answers them, to be shown.
+/// A number of leaves and one of joins, as a call answers them, to be shown.
 #[derive(Clone, Copy, Default)]
 pub struct Made {
     pub leaves: u64,
@@ -21,7 +21,7 @@ impl fmt::Display for Made {
     }
 }
 
-// The answer of a step, to be shown.
+/// The answer of a step, to be shown.
 #[derive(Clone, Copy)]
 pub struct Answer(pub Result<(u64, u64), Refusal>);
 
@@ -34,8 +34,8 @@ impl fmt::Display for Answer {
     }
 }
 
-// What became of a draft: the run that it was turned into, closed, with the root in hex; or the refusal of the
-// turn.
+/// What became of a draft: the run that it was turned into, closed, with the root in hex; or the refusal of the
+/// turn.
 #[derive(Drop)]
 pub enum Ending {
     Closed {
@@ -68,7 +68,7 @@ impl fmt::Display for Ending {
     }
 }
 
-// The steps of a draft that made something, and the leaves and the joins that they answered.
+/// The steps of a draft that made something, and the leaves and the joins that they answered.
 #[derive(Clone, Copy, Default)]
 pub struct Tally {
     pub steps: u64,
@@ -76,7 +76,7 @@ pub struct Tally {
 }
 
 impl Tally {
-    // Counts a step more.
+    /// Counts a step more.
     pub(crate) fn add(&mut self, leaves: u64, joins: u64) {
         self.steps = self.steps.saturating_add(1);
         self.made.leaves = self.made.leaves.saturating_add(leaves);

@@ -1,7 +1,8 @@
+//! Drafts the tree that the job ticket of the input asks for, and prints its root and the number of nodes
+//! that the draft made; or why there is none.
+
 #![tactic(auto)]
 
-// Drafts the tree that the job ticket of the input asks for, and prints its root and the number of nodes
-// that the draft made; or why there is none.
 use session::root::root;
 use std::alloc::{AllocError, Global};
 use std::io::Read;
@@ -20,15 +21,15 @@ use tree::sealed::Sealed;
 use tree::seed::SeedSource;
 use tree::span::Span;
 
-// How many cells the table has.
+/// How many cells the table has.
 const CELLS: usize = 2000;
 
-// Why a ticket gets no root.
+/// Why a ticket gets no root.
 #[derive(Debug, Drop, Error)]
 enum Failure {
     #[error(transparent)]
     Ticket(#[from] job::Refusal),
-    // printed by its number alone
+    /// printed by its number alone
     #[error("refused {}", .0.number())]
     Traversal(#[from] refusal::Refusal),
     #[error(transparent)]
@@ -46,7 +47,7 @@ fn main(rt: HostRuntime) -> anyhow::Result<()> {
     Ok(())
 }
 
-// The line on the tree that a ticket asks for.
+/// The line on the tree that a ticket asks for.
 fn list(heap: Global, text: &[u8]) -> Result<String, Failure> {
     let mut source = SeedSource::new([0; 32]);
     let job = read(text, &mut [0; 32], &mut source)?;
@@ -56,7 +57,7 @@ fn list(heap: Global, text: &[u8]) -> Result<String, Failure> {
     }
 }
 
-// Drafts the tree of a job, in a table that is full of one node before: its root, and how many nodes were made.
+/// Drafts the tree of a job, in a table that is full of one node before: its root, and how many nodes were made.
 fn draft<M: Maker + Drop>(
     heap: Global,
     job: Job,

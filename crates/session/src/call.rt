@@ -10,7 +10,7 @@ use traversal::state::Draft;
 use tree::maker::Maker;
 use tree::source::Source;
 
-// Makes a call on a draft. Whatever a call does is a step of the histories that the law speaks of.
+/// Makes a call on a draft. Whatever a call does is a step of the histories that the law speaks of.
 pub fn call<M: Maker, S: Source>(draft: Draft, ask: Ask, lent: &mut Lent<M, S>) -> (Held, Call)
     ensures asked { asked result.1 ≡ ask }
     ensures made { History (Drafting draft) (world_of M.meaning M.meter S.supply lent.old) (result.1 ∷ []) result.0 (world_of M.meaning M.meter S.supply lent.new) }

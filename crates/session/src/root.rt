@@ -12,7 +12,7 @@ use traversal::state::{Draft, Run};
 use tree::maker::Maker;
 use tree::source::Source;
 
-// Drafts a whole tree: answers its root, and the leaves and the joins made.
+/// Drafts a whole tree: answers its root, and the leaves and the joins made.
 pub fn root<M: Maker, S: Source>(
     height: u32,
     subtree: u32,
@@ -29,7 +29,7 @@ pub fn root<M: Maker, S: Source>(
     }
 }
 
-// The root and what the draft made, of a run that is closed.
+/// The root and what the draft made, of a run that is closed.
 fn finish<M: Maker, S: Source>(
     run: Run,
     lent: &Lent<M, S>,
@@ -41,7 +41,7 @@ fn finish<M: Maker, S: Source>(
     Ok((root?, totals.drafted))
 }
 
-// What the next unit of a draft lacks: a step is refused for it.
+/// What the next unit of a draft lacks: a step is refused for it.
 fn lack<M: Maker, S: Source>(draft: Draft, lent: &mut Lent<M, S>) -> Refusal
     requires room { draft.shape.cells ≤ length lent.old.table.now }
     requires unfinished { units draft < units_in_all draft }

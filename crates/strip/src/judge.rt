@@ -14,8 +14,8 @@ use tree::kind::Kind;
 use tree::maker::Maker;
 use tree::sealed::Sealed;
 
-// Whether a strip leads to a root, both given as bytes. The strip's kind byte picks the maker; a kind
-// that no maker has is refused as any wrong byte is.
+/// Whether a strip leads to a root, both given as bytes. The strip's kind byte picks the maker; a kind
+/// that no maker has is refused as any wrong byte is.
 pub fn judge(root: &[u8], bytes: &[u8]) -> Result<bool, Refusal>
     ensures answer { JudgesByKind root.now bytes.now result }
     ensures sealed_trees { AcceptsRoot sealed_meaning root.now bytes.now result }
@@ -28,7 +28,7 @@ pub fn judge(root: &[u8], bytes: &[u8]) -> Result<bool, Refusal>
     }
 }
 
-// The kind that a strip's kind byte names, if it names one.
+/// The kind that a strip's kind byte names, if it names one.
 fn kind_in(bytes: &[u8]) -> Option<Kind>
     ensures named { IfSome result (λ kind. kind_byte kind ≡ slice_index bytes.now 1) }
     ensures none { IsNone result → (kind : Kind) → kind_byte kind ≢ slice_index bytes.now 1 }
@@ -39,8 +39,8 @@ fn kind_in(bytes: &[u8]) -> Option<Kind>
     }
 }
 
-// Whether a strip of a given maker leads to a root, both given as bytes. Makes a leaf and a join for each
-// node of the path, unless it refuses the strip or the root's bytes are no node.
+/// Whether a strip of a given maker leads to a root, both given as bytes. Makes a leaf and a join for each
+/// node of the path, unless it refuses the strip or the root's bytes are no node.
 pub fn judge_with<M: Maker>(maker: &mut M, root: &[u8], bytes: &[u8]) -> Result<bool, Refusal>
     ensures answer { Judges (M.meaning maker.old) root.now bytes.now result }
     ensures full_tree { AcceptsRoot (M.meaning maker.old) root.now bytes.now result }

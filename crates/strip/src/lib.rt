@@ -1,6 +1,7 @@
+//! Proof strips: written, read, and checked against the root of a tree.
+
 #![tactic(auto)]
 
-// Proof strips: written, read, and checked against the root of a tree.
 pub mod check;
 pub mod figures;
 pub mod hex;

@@ -11,7 +11,7 @@ use tree::fold::front_node;
 use tree::height::{has_leaf, is_height};
 use tree::maker::Maker;
 
-// A strip's parts, as parts of its bytes.
+/// A strip's parts, as parts of its bytes.
 #[derive(Clone, Copy, Debug, PartialEq, Eq)]
 pub struct Strip<'a> {
     pub height: u32,
@@ -20,14 +20,14 @@ pub struct Strip<'a> {
     pub path: &'a [u8],
 }
 
-// What the head says.
+/// What the head says.
 #[derive(Clone, Copy)]
 struct HeadPart {
     height: u32,
     number: u32,
 }
 
-// Reads the head.
+/// Reads the head.
 fn head(kind: u8, bytes: &[u8]) -> Result<HeadPart, Fault>
     ensures { HeadRead kind bytes.now result }
 {
@@ -48,7 +48,7 @@ fn head(kind: u8, bytes: &[u8]) -> Result<HeadPart, Fault>
     }
 }
 
-// Takes the token out. Each section stands at a fixed place, so the whole strip is all that its reader needs.
+/// Takes the token out. Each section stands at a fixed place, so the whole strip is all that its reader needs.
 fn token(bytes: &[u8]) -> Result<&[u8], Fault>
     ensures { TokenRead bytes.now result }
 {
@@ -61,7 +61,7 @@ fn token(bytes: &[u8]) -> Result<&[u8], Fault>
     }
 }
 
-// Takes out the path, the bytes after a count that is the height.
+/// Takes out the path, the bytes after a count that is the height.
 fn path(bytes: &[u8], height: u32) -> Result<&[u8], Fault>
     requires { height ≡ height_in bytes.now }
     ensures { CountRead bytes.now result }
@@ -73,7 +73,7 @@ fn path(bytes: &[u8], height: u32) -> Result<&[u8], Fault>
     }
 }
 
-// Looks that the path is `height` nodes and nothing more.
+/// Looks that the path is `height` nodes and nothing more.
 fn only_nodes<M: Maker>(maker: &M, bytes: &[u8], height: u32) -> Result<(), Fault>
     requires { 41 ≤ length bytes.now }
     ensures { NodesRead (M.meaning maker.now) bytes.now height result }
@@ -93,7 +93,7 @@ fn only_nodes<M: Maker>(maker: &M, bytes: &[u8], height: u32) -> Result<(), Faul
     }
 }
 
-// Takes a strip apart, section by section.
+/// Takes a strip apart, section by section.
 pub fn parse<'a, M: Maker>(maker: &M, bytes: &'a [u8]) -> Result<Strip<'a>, Fault>
     ensures { Parsed (M.meaning maker.now) bytes.now result }
 {

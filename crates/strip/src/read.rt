@@ -7,7 +7,7 @@ use crate::refusal::Refusal;
 use tree::fold::front_node;
 use tree::maker::Maker;
 
-// Takes a strip apart and fills the first cells with the nodes of its path.
+/// Takes a strip apart and fills the first cells with the nodes of its path.
 pub fn read<'a, M: Maker>(
     maker: &M,
     bytes: &'a [u8],
@@ -25,8 +25,8 @@ pub fn read<'a, M: Maker>(
     Ok(strip)
 }
 
-// Fills the first cells with the nodes of a path. The cells are numbered and not zipped with the path, since
-// nothing is known of what a `zip` with an `iter_mut` wrote.
+/// Fills the first cells with the nodes of a path. The cells are numbered and not zipped with the path, since
+/// nothing is known of what a `zip` with an `iter_mut` wrote.
 fn fill<M: Maker>(maker: &M, path: &[u8], cells: &mut [M::Node])
     requires nodes { length (path_nodes (M.meaning maker.now) path.now) ≡ length path.now / (M.meaning maker.now).width }
     requires room { length (path_nodes (M.meaning maker.now) path.now) ≤ length cells.old }

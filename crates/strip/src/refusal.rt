@@ -5,7 +5,7 @@ ghost use Rattle.strip.specs.declared.refusal.Refusal.TheVariants.{NoStrip};
 use std::error::Error;
 use std::fmt;
 
-// The sections of a strip.
+/// The sections of a strip.
 #[derive(Clone, Copy, Debug, PartialEq, Eq)]
 pub enum Section {
     Head,
@@ -13,30 +13,30 @@ pub enum Section {
     Path,
 }
 
-// Where bytes stop being a strip: the place of the first wrong byte, or of the first missing one.
+/// Where bytes stop being a strip: the place of the first wrong byte, or of the first missing one.
 #[derive(Clone, Copy, Debug, PartialEq, Eq)]
 pub struct Fault {
     pub place: usize,
     pub section: Section,
 }
 
-// Why a call does nothing.
+/// Why a call does nothing.
 #[derive(Clone, Copy, Debug, PartialEq, Eq)]
 pub enum Refusal {
-    // No tree has this height.
+    /// No tree has this height.
     Height(u32),
-    // A slice is too short; it should have had so many elements.
+    /// A slice is too short; it should have had so many elements.
     Short(usize),
-    // The tree has no leaf of this number.
+    /// The tree has no leaf of this number.
     Number(u32),
-    // The bytes are no strip.
+    /// The bytes are no strip.
     NoStrip(Fault),
 }
 
 impl Section {
     ghost use Rattle.strip.specs.Format.{fault};
 
-    // A fault in this section.
+    /// A fault in this section.
     pub fn at(self, place: usize) -> Fault
         ensures { result ≡ fault place self }
     {
@@ -46,7 +46,7 @@ impl Section {
         }
     }
 
-    // The sections count from 1. The number stands for a section in answers alone.
+    /// The sections count from 1. The number stands for a section in answers alone.
     pub fn number(self) -> u8
         ensures { result ≡ section_number self }
     {
@@ -59,8 +59,8 @@ impl Section {
 }
 
 impl Refusal {
-    // The number by which a refusal is known outside. It is one fact of a refusal, not the refusal in
-    // another form, so it is no conversion.
+    /// The number by which a refusal is known outside. It is one fact of a refusal, not the refusal in
+    /// another form, so it is no conversion.
     pub fn number(self) -> u8
         ensures { result ≡ (numbered self).0 }
     {

@@ -7,8 +7,8 @@ use crate::refusal::Refusal;
 use tree::height::{has_leaf, is_height};
 use tree::maker::Maker;
 
-// Writes the strip of a number: its token is the first 32 bytes of `token`, and its path the first
-// `height` cells of `path`. Answers its length.
+/// Writes the strip of a number: its token is the first 32 bytes of `token`, and its path the first
+/// `height` cells of `path`. Answers its length.
 pub fn write<M: Maker>(
     maker: &M,
     height: u32,
@@ -33,7 +33,7 @@ pub fn write<M: Maker>(
     Ok(needed)
 }
 
-// How long the strip is, or why it can't be written.
+/// How long the strip is, or why it can't be written.
 fn room<M: Maker>(
     maker: &M,
     height: u32,
@@ -64,7 +64,7 @@ fn room<M: Maker>(
     Ok(needed)
 }
 
-// Puts pieces into `out` one after another; the next goes to `place`.
+/// Puts pieces into `out` one after another; the next goes to `place`.
 #[derive(Drop)]
 struct Writer<'a> {
     out: &'a mut [u8],

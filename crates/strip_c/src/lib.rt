@@ -16,12 +16,12 @@ use tree::height::is_height;
 use tree::kind::Kind;
 use tree::sealed::Sealed;
 
-// What a check answers. The C interface fixes these numbers and the 0 of the two lengths.
+/// What a check answers. The C interface fixes these numbers and the 0 of the two lengths.
 const YES: u32 = 0;
 
 const NO: u32 = 100;
 
-// How many cells the table of a traversal has; 0 for heights that no tree or no subtree has.
+/// How many cells the table of a traversal has; 0 for heights that no tree or no subtree has.
 #[unsafe(no_mangle)]
 pub extern "C" fn strips_table_size(height: u32, subtree: u32) -> u64
     ensures { result ≡ size_or_0 height subtree }
@@ -29,7 +29,7 @@ pub extern "C" fn strips_table_size(height: u32, subtree: u32) -> u64
     size(height, subtree).map_or(0, |cells| cells as u64)
 }
 
-// How many bytes a strip has; 0 for a kind or a height that no strip has.
+/// How many bytes a strip has; 0 for a kind or a height that no strip has.
 #[unsafe(no_mangle)]
 pub extern "C" fn strips_strip_length(kind: u32, height: u32) -> u64
     ensures { result ≡ length_or_0 kind height }
@@ -44,7 +44,7 @@ pub extern "C" fn strips_strip_length(kind: u32, height: u32) -> u64
     }
 }
 
-// The kind of a number, if it is one's.
+/// The kind of a number, if it is one's.
 fn kind_of(number: u32) -> Option<Kind>
     ensures named { IfSome result (λ kind. kind_byte kind ≡ number) }
     ensures none { IsNone result → (kind : Kind) → kind_byte kind ≢ number }
@@ -52,8 +52,8 @@ fn kind_of(number: u32) -> Option<Kind>
     Kind::try_from(u8::try_from(number).ok()?).ok()
 }
 
-// Whether a sealed strip leads to a root of 32 bytes: 0 for yes and 100 for no, or the number of the
-// refusal.
+/// Whether a sealed strip leads to a root of 32 bytes: 0 for yes and 100 for no, or the number of the
+/// refusal.
 #[unsafe(no_mangle)]
 pub extern "C" fn strips_check(strip: &[u8], root: &[u8]) -> u32
     ensures answer { ChecksSealed strip.now root.now result }

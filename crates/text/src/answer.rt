@@ -5,7 +5,7 @@ ghost use Rattle.text.specs.Answers.{answer_line};
 use std::alloc::{AllocError, Global};
 use strip::refusal::Refusal;
 
-// A verdict in words: yes, no, or why there is none.
+/// A verdict in words: yes, no, or why there is none.
 pub fn answer(heap: Global, verdict: Result<bool, Refusal>) -> Result<String, AllocError>
     ensures { IfOk result (λ s. string_bytes s ≡ answer_line verdict) }
 {
@@ -16,7 +16,7 @@ pub fn answer(heap: Global, verdict: Result<bool, Refusal>) -> Result<String, Al
     }
 }
 
-// A refusal by its number and its values.
+/// A refusal by its number and its values.
 pub fn refused(heap: Global, refusal: Refusal) -> Result<String, AllocError>
     ensures { IfOk result (λ s. string_bytes s ≡ refusal_line refusal) }
 {

@@ -4,12 +4,12 @@ ghost use Rattle.text.specs.Damages.{damage_text, changes, cuts, Told};
 
 use std::fmt;
 
-// One way to damage bytes.
+/// One way to damage bytes.
 #[derive(Clone, Copy)]
 pub enum Damage {
-    // The bits of a mask are inverted in the byte at a place.
+    /// The bits of a mask are inverted in the byte at a place.
     Change(usize, u8),
-    // So many bytes are left.
+    /// So many bytes are left.
     Cut(usize),
 }
 
@@ -24,8 +24,8 @@ impl fmt::Display for Damage {
     }
 }
 
-// Shows bytes after each change: at each place in turn, by each of some masks. The bytes are left as they
-// were, also where an error ends it.
+/// Shows bytes after each change: at each place in turn, by each of some masks. The bytes are left as they
+/// were, also where an error ends it.
 pub fn each_change<E, F: FnMut(Damage, &[u8]) -> Result<(), E>>(
     bytes: &mut [u8],
     masks: &[u8],
@@ -46,7 +46,7 @@ pub fn each_change<E, F: FnMut(Damage, &[u8]) -> Result<(), E>>(
     Ok(())
 }
 
-// Shows bytes after each cut, the shortest first.
+/// Shows bytes after each cut, the shortest first.
 pub fn each_cut<E, F: FnMut(Damage, &[u8]) -> Result<(), E>>(
     bytes: &[u8],
     mut show: F,

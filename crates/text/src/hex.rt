@@ -9,7 +9,7 @@ use strip::hex::digit;
 use thiserror::Error;
 use tree::maker::Maker;
 
-// Bytes, to be shown in lower-case hex, two digits a byte.
+/// Bytes, to be shown in lower-case hex, two digits a byte.
 #[derive(Clone, Copy)]
 pub struct Hex<'a>(pub &'a [u8]);
 
@@ -24,7 +24,7 @@ impl fmt::Display for Hex<'_> {
     }
 }
 
-// The bytes of a node in lower-case hex.
+/// The bytes of a node in lower-case hex.
 pub fn node_hex<M: Maker>(heap: Global, maker: &M, node: M::Node) -> Result<String, AllocError>
     ensures { IfOk result (λ s. string_bytes s ≡ hex_text ((M.meaning maker.now).put node)) }
 {
@@ -34,7 +34,7 @@ pub fn node_hex<M: Maker>(heap: Global, maker: &M, node: M::Node) -> Result<Stri
     format!(in heap; "{}", Hex(&bytes))
 }
 
-// Why a text gives no bytes.
+/// Why a text gives no bytes.
 #[derive(Drop, Debug, Error)]
 pub enum NoBytes {
     #[error("a line is not lower-case hex, two digits a byte")]
@@ -53,7 +53,7 @@ impl From<AllocFailed<u8>> for NoBytes {
     }
 }
 
-// The bytes that a text of hex digits stands for, two digits a byte.
+/// The bytes that a text of hex digits stands for, two digits a byte.
 pub fn decode(heap: Global, text: &[u8]) -> Result<Vec<u8>, NoBytes>
     ensures { Decodes text.now result }
 {

@@ -6,7 +6,7 @@ use std::error::Error;
 use std::fmt;
 pub use tree::kind::Kind;
 
-// What a ticket asks for, but for its seed. The heights are not judged yet.
+/// What a ticket asks for, but for its seed. The heights are not judged yet.
 #[derive(Clone, Copy, Debug, PartialEq)]
 pub struct Job {
     pub kind: Kind,
@@ -14,25 +14,25 @@ pub struct Job {
     pub subtree: u32,
 }
 
-// A place in a text: the line counts from 1, the column from 0.
+/// A place in a text: the line counts from 1, the column from 0.
 #[derive(Clone, Copy, Debug, PartialEq)]
 pub struct Spot {
     pub line: usize,
     pub column: usize,
 }
 
-// Why a ticket is not read.
+/// Why a ticket is not read.
 #[derive(Clone, Copy, Debug, PartialEq)]
 pub enum Refusal {
-    // The scratch is too short; it should have had so many bytes.
+    /// The scratch is too short; it should have had so many bytes.
     Short(usize),
-    // The text is no ticket; this byte is wrong or missing.
+    /// The text is no ticket; this byte is wrong or missing.
     NoTicket(Spot),
 }
 
 impl Refusal {
-    // The number by which a refusal is known outside. It is one fact of a refusal, not the refusal in
-    // another form, so it is no conversion.
+    /// The number by which a refusal is known outside. It is one fact of a refusal, not the refusal in
+    /// another form, so it is no conversion.
     pub fn number(self) -> u8
         ensures { result ≡ (numbered self).0 }
     {

@@ -1,6 +1,7 @@
+//! Job tickets: four lines of text that name a maker, two heights and a secret seed.
+
 #![tactic(auto)]
 
-// Job tickets: four lines of text that name a maker, two heights and a secret seed.
 pub mod job;
 mod read;
 mod reader;

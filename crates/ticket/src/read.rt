@@ -4,7 +4,7 @@ ghost use Rattle.ticket.specs.Reading.{FieldsRead, spot_after};
 use crate::job::{Job, Spot};
 use crate::reader::{Reader, SEED_LENGTH, Wrong};
 
-// Reads the fields of a ticket, and its seed; or finds the first byte that no ticket has there.
+/// Reads the fields of a ticket, and its seed; or finds the first byte that no ticket has there.
 pub(crate) fn fields(text: &[u8], seed: &mut [u8; SEED_LENGTH]) -> Result<Job, Wrong>
     ensures { FieldsRead text.now seed.new result }
 {
@@ -26,7 +26,7 @@ pub(crate) fn fields(text: &[u8], seed: &mut [u8; SEED_LENGTH]) -> Result<Job, W
     })
 }
 
-// The line and the column that come after some bytes.
+/// The line and the column that come after some bytes.
 pub(crate) fn spot(before: &[u8]) -> Spot
     ensures { (result.line, result.column) ≡ spot_after before.now 1 0 }
 {

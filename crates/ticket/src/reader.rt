@@ -5,16 +5,16 @@ ghost use Rattle.ticket.specs.Texts.{kind_line};
 use crate::job::Kind;
 use strip::hex::digit;
 
-// How many bytes a seed has.
+/// How many bytes a seed has.
 pub(crate) const SEED_LENGTH: usize = 32;
 
-// Reads a text from the front. A piece that is not there is refused; nothing is read after that.
+/// Reads a text from the front. A piece that is not there is refused; nothing is read after that.
 #[derive(Drop)]
 pub(crate) struct Reader<'a> {
     left: &'a [u8],
 }
 
-// A text goes wrong: so many bytes are left from the first one on that is wrong or missing.
+/// A text goes wrong: so many bytes are left from the first one on that is wrong or missing.
 #[derive(Clone, Copy)]
 pub(crate) struct Wrong {
     pub(crate) left: usize,
@@ -27,7 +27,7 @@ impl<'a> Reader<'a> {
         Reader { left: text }
     }
 
-    // Reads a word.
+    /// Reads a word.
     pub(crate) fn literal(&mut self, word: &[u8]) -> Result<(), Wrong>
         ensures { LiteralRead self.old.left.now word.now self.new.left.now result }
     {
@@ -42,7 +42,7 @@ impl<'a> Reader<'a> {
         Ok(())
     }
 
-    // Reads the name of a maker and the line's end.
+    /// Reads the name of a maker and the line's end.
     pub(crate) fn kind(&mut self) -> Result<Kind, Wrong>
         ensures { KindRead self.old.left.now self.new.left.now result }
     {
@@ -56,7 +56,7 @@ impl<'a> Reader<'a> {
         Ok(kind)
     }
 
-    // Reads a number of one or two digits, the first not 0, and the line's end.
+    /// Reads a number of one or two digits, the first not 0, and the line's end.
     pub(crate) fn number(&mut self) -> Result<u32, Wrong>
         ensures { NumberRead self.old.left.now self.new.left.now result }
     {
@@ -69,7 +69,7 @@ impl<'a> Reader<'a> {
         Ok(10 * first + second)
     }
 
-    // Reads a seed in hex.
+    /// Reads a seed in hex.
     pub(crate) fn seed(&mut self, seed: &mut [u8; SEED_LENGTH]) -> Result<(), Wrong>
         ensures { SeedRead self.old.left.now self.new.left.now seed.new result }
     {
@@ -81,7 +81,7 @@ impl<'a> Reader<'a> {
         Ok(())
     }
 
-    // Nothing is left.
+    /// Nothing is left.
     pub(crate) fn end(&self) -> Result<(), Wrong>
         ensures { EndRead self.now.left.now result }
     {
@@ -92,7 +92,7 @@ impl<'a> Reader<'a> {
         }
     }
 
-    // Reads the next byte, if it means something here.
+    /// Reads the next byte, if it means something here.
     fn next<T, F: FnOnce(u8) -> Option<T>>(&mut self, meaning: F) -> Result<T, Wrong>
         requires { F.IsAlwaysCallable meaning }
         ensures { NextRead (F.post meaning) self.old.left.now self.new.left.now result }
@@ -107,7 +107,7 @@ impl<'a> Reader<'a> {
         Ok(value)
     }
 
-    // The text goes wrong with the next byte.
+    /// The text goes wrong with the next byte.
     fn here(&self) -> Wrong
         ensures { result.left ≡ length self.now.left.now }
     {
@@ -117,7 +117,7 @@ impl<'a> Reader<'a> {
     }
 }
 
-// The maker whose name begins with a byte.
+/// The maker whose name begins with a byte.
 fn named(first: u8) -> Option<Kind>
     ensures { Begins first result }
 {
@@ -128,7 +128,7 @@ fn named(first: u8) -> Option<Kind>
     }
 }
 
-// The name of a maker and the line's end.
+/// The name of a maker and the line's end.
 fn kind_line(kind: Kind) -> &'static [u8]
     ensures { result.now ≡ kind_line kind }
 {
@@ -138,7 +138,7 @@ fn kind_line(kind: Kind) -> &'static [u8]
     }
 }
 
-// The value of a decimal digit.
+/// The value of a decimal digit.
 fn decimal(byte: u8) -> Option<u32>
     ensures { result ≡ decimal_value byte }
 {
@@ -148,7 +148,7 @@ fn decimal(byte: u8) -> Option<u32>
     }
 }
 
-// The value of a digit with which a number begins.
+/// The value of a digit with which a number begins.
 fn leading(byte: u8) -> Option<u32>
     ensures { result ≡ leading_value byte }
 {

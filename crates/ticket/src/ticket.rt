@@ -6,7 +6,7 @@ use crate::read::{fields, spot};
 use crate::reader::{SEED_LENGTH, Wrong};
 use tree::seed::SeedSource;
 
-// Holds the bytes where a seed is unpacked, and wipes them when it goes.
+/// Holds the bytes where a seed is unpacked, and wipes them when it goes.
 struct Wipe<'a>(&'a mut [u8; SEED_LENGTH]);
 
 impl Drop for Wipe<'_> {
@@ -18,8 +18,8 @@ impl Drop for Wipe<'_> {
     }
 }
 
-// Reads a job ticket: answers what it asks for and puts its seed into the source. The seed is unpacked in
-// the scratch, which is wiped on every way out.
+/// Reads a job ticket: answers what it asks for and puts its seed into the source. The seed is unpacked in
+/// the scratch, which is wiped on every way out.
 pub fn read(text: &[u8], scratch: &mut [u8], source: &mut SeedSource) -> Result<Job, Refusal>
     ensures scratch { scratch.new ≡ left_in scratch.old }
     ensures answer { Answers text.now scratch.old source.old.seed source.new.seed result }
@@ -34,7 +34,7 @@ pub fn read(text: &[u8], scratch: &mut [u8], source: &mut SeedSource) -> Result<
     }
 }
 
-// Reads a ticket through an array, which is wiped on every way out; or finds where it goes wrong.
+/// Reads a ticket through an array, which is wiped on every way out; or finds where it goes wrong.
 fn unpack(text: &[u8], seed: &mut [u8; SEED_LENGTH], source: &mut SeedSource) -> Result<Job, Wrong>
     ensures wiped { seed.new ≡ replicate 32 0 }
     ensures answer { Unpacks text.now source.old.seed source.new.seed result }
@@ -43,7 +43,7 @@ fn unpack(text: &[u8], seed: &mut [u8; SEED_LENGTH], source: &mut SeedSource) ->
     reseed(text, guard.0, source)
 }
 
-// The same, but the array keeps the seed.
+/// The same, but the array keeps the seed.
 fn reseed(text: &[u8], seed: &mut [u8; SEED_LENGTH], source: &mut SeedSource) -> Result<Job, Wrong>
     ensures { Unpacks text.now source.old.seed source.new.seed result }
 {

@@ -1,7 +1,8 @@
+//! Reads the job ticket of the input as it is and after damage: each byte changed in turn, every shorter
+//! text, and a longer one. Then asks for the sizes of some tables.
+
 #![tactic(auto)]
 
-// Reads the job ticket of the input as it is and after damage: each byte changed in turn, every shorter
-// text, and a longer one. Then asks for the sizes of some tables.
 use std::fmt::Display;
 use std::io::Read;
 use text::damage::{each_change, each_cut};
@@ -11,10 +12,10 @@ use tree::geometry::size;
 use tree::seed::SeedSource;
 use tree::source::Source;
 
-// The bits that are inverted in each byte, one at a time.
+/// The bits that are inverted in each byte, one at a time.
 const BITS: [u8; 2] = [1, 64];
 
-// Heights of trees and of their subtrees, legal and not.
+/// Heights of trees and of their subtrees, legal and not.
 const SHAPES: [(u32, u32); 8] = [
     (1, 1),
     (4, 1),
@@ -46,7 +47,7 @@ fn run(rt: &HostRuntime) -> anyhow::Result<()> {
     Ok(())
 }
 
-// What a text asks for, with the beginning of its first token; or where it goes wrong.
+/// What a text asks for, with the beginning of its first token; or where it goes wrong.
 fn tell<D: Display + Copy>(rt: &HostRuntime, what: D, text: &[u8]) -> anyhow::Result<()> {
     let mut scratch = [255; 40];
     let mut source = SeedSource::new([0; 32]);
@@ -65,7 +66,7 @@ fn tell<D: Display + Copy>(rt: &HostRuntime, what: D, text: &[u8]) -> anyhow::Re
     Ok(())
 }
 
-// The first four bytes of the first token, as a number.
+/// The first four bytes of the first token, as a number.
 fn first_token(source: &mut SeedSource) -> u32 {
     let mut token = [0; 32];
     let _ = source.token(0, &mut token);

@@ -16,8 +16,8 @@ use tree::maker::Maker;
 use tree::source::Source;
 
 impl Draft {
-    // Begins the initialisation of a traversal: of the tree of a height over the tokens of a source, with
-    // subtrees of another height, in a table of cells. Touches no cell.
+    /// Begins the initialisation of a traversal: of the tree of a height over the tokens of a source, with
+    /// subtrees of another height, in a table of cells. Touches no cell.
     pub fn begin<N, S: Source>(
         height: u32,
         subtree: u32,
@@ -40,8 +40,8 @@ impl Draft {
         })
     }
 
-    // Runs the treehash on: makes nodes until so many are made, the draft is complete or the next token is
-    // missing; answers the leaves and the joins that it made.
+    /// Runs the treehash on: makes nodes until so many are made, the draft is complete or the next token is
+    /// missing; answers the leaves and the joins that it made.
     pub fn step<M: Maker, S: Source>(
         &mut self,
         lent: &mut Lent<M, S>,
@@ -63,7 +63,7 @@ impl Draft {
         Ok(self.hash.since(before))
     }
 
-    // Ends the initialisation: turns a complete draft into a run.
+    /// Ends the initialisation: turns a complete draft into a run.
     pub fn turn(self) -> Result<Run, Incomplete>
         ensures { Turned self result }
     {
@@ -83,7 +83,7 @@ impl Draft {
         })
     }
 
-    // Gives a draft up; answers the leaves and the joins that it made.
+    /// Gives a draft up; answers the leaves and the joins that it made.
     pub fn abandon(self) -> (u64, u64)
         ensures { result ≡ made_so_far self }
     {
@@ -91,7 +91,7 @@ impl Draft {
         hash.pair()
     }
 
-    // How many units are still to be made.
+    /// How many units are still to be made.
     fn missing(&self) -> u64
         ensures { result ≡ units_in_all self.now - units self.now }
     {
@@ -99,7 +99,7 @@ impl Draft {
         (2 << self.shape.height) - 1 - leaves - joins
     }
 
-    // Where the draft's nodes lie.
+    /// Where the draft's nodes lie.
     fn plot(&self) -> Plot
         ensures { result ≡ draft_plot self.now.shape.height self.now.shape.subtree }
     {
@@ -118,7 +118,7 @@ impl Draft {
         }
     }
 
-    // One unit.
+    /// One unit.
     fn unit<M: Maker, S: Source>(&mut self, lent: &mut Lent<M, S>) -> Result<(), DraftFault>
         requires room { self.old.shape.cells ≤ length lent.old.table.now }
         requires unfinished { units self.old < units_in_all self.old }
@@ -134,7 +134,7 @@ impl Draft {
         Ok(())
     }
 
-    // Makes so many units, unless a token is missing before.
+    /// Makes so many units, unless a token is missing before.
     fn go_on<M: Maker, S: Source>(&mut self, lent: &mut Lent<M, S>, count: u64)
         requires room { self.old.shape.cells ≤ length lent.old.table.now }
         requires count { units self.old + count ≤ units_in_all self.old }

@@ -5,8 +5,8 @@ ghost use Rattle.traversal.specs.Units.{Standing};
 use crate::plot::{Home, Plot, row_offset, section_cells};
 use crate::treehash::Treehash;
 
-// A tree that grows in a table: where its nodes lie, and how far its treehash has come. That the table has
-// room is asked by each call: a type that holds the lent table beside this fact is not covered by the check.
+/// A tree that grows in a table: where its nodes lie, and how far its treehash has come. That the table has
+/// room is asked by each call: a type that holds the lent table beside this fact is not covered by the check.
 #[derive(Clone, Copy)]
 pub(crate) struct Growing {
     pub(crate) plot: Plot,
@@ -16,7 +16,7 @@ pub(crate) struct Growing {
 }
 
 impl Growing {
-    // Where a node of the tree lies.
+    /// Where a node of the tree lies.
     pub(crate) fn home(&self, height: u32, index: u32) -> Home
         requires { (height ≤ self.now.plot.top) × (index < 2 ^ (self.now.plot.top - height)) }
         ensures { Lies self.now.plot height index result }

@@ -4,22 +4,22 @@ ghost use Rattle.traversal.specs.Plots.{row_start, cell_of, on_stack};
 
 use crate::tail::{push_on, top_of};
 
-// The layout of one growing tree in the table: which of its nodes have a cell of their own, where these
-// cells lie, and where the stack of the other nodes starts.
+/// The layout of one growing tree in the table: which of its nodes have a cell of their own, where these
+/// cells lie, and where the stack of the other nodes starts.
 #[derive(Clone, Copy)]
 pub(crate) struct Plot {
-    // Below this height no node has a cell of its own.
+    /// Below this height no node has a cell of its own.
     pub(crate) lowest: u32,
-    // The height of the tree, and that of the subtrees.
+    /// The height of the tree, and that of the subtrees.
     pub(crate) top: u32,
     pub(crate) subtree: u32,
-    // Where the subtree of level 1 would start; those of higher levels follow.
+    /// Where the subtree of level 1 would start; those of higher levels follow.
     pub(crate) rows: usize,
-    // Where the stack starts.
+    /// Where the stack starts.
     pub(crate) tail: usize,
 }
 
-// Where a node lies.
+/// Where a node lies.
 #[derive(Clone, Copy)]
 pub(crate) enum Home {
     Root,
@@ -30,7 +30,7 @@ pub(crate) enum Home {
 }
 
 impl Home {
-    // Puts a node there; answers how many nodes are on the stack then.
+    /// Puts a node there; answers how many nodes are on the stack then.
     pub(crate) fn put<N: Copy>(self, table: &mut [N], stacked: usize, node: N) -> usize
         requires { cell_of self stacked < length table.old }
         ensures table { table.new ≡ slice_set table.old (cell_of self stacked) node }
@@ -50,7 +50,7 @@ impl Home {
         }
     }
 
-    // Takes the node from there; answers it and how many nodes are on the stack then.
+    /// Takes the node from there; answers it and how many nodes are on the stack then.
     pub(crate) fn take<N: Copy>(self, table: &mut [N], stacked: usize) -> (N, usize)
         requires stacked { on_stack self ≤ stacked }
         requires room { cell_of self (stacked - on_stack self) < length table.old }
@@ -69,7 +69,7 @@ impl Home {
     }
 }
 
-// The cells of a subtree.
+/// The cells of a subtree.
 pub(crate) fn section_cells(subtree: u32) -> usize
     requires { subtree ≤ 10 }
     ensures { result ≡ subtree_cells subtree }
@@ -77,7 +77,7 @@ pub(crate) fn section_cells(subtree: u32) -> usize
     (2 << subtree) - 2
 }
 
-// Where a row of a subtree starts in its section. Rows count from the bottom.
+/// Where a row of a subtree starts in its section. Rows count from the bottom.
 pub(crate) fn row_offset(subtree: u32, row: u32) -> usize
     requires { (subtree ≤ 10) × (row ≤ subtree) }
     ensures { result ≡ row_start subtree row }

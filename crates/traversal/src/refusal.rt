@@ -8,13 +8,13 @@ use std::fmt;
 use tree::fault::Cause;
 use tree::refusal;
 
-// Which call lacked a token.
+/// Which call lacked a token.
 #[derive(Clone, Copy, Debug, PartialEq, Eq)]
 pub enum Layer {
     Draft,
 }
 
-// A token that could not be had.
+/// A token that could not be had.
 #[derive(Clone, Copy, Debug, PartialEq, Eq)]
 pub struct Lack {
     pub number: u32,
@@ -22,23 +22,23 @@ pub struct Lack {
     pub layer: Layer,
 }
 
-// Why a call of a traversal does nothing.
+/// Why a call of a traversal does nothing.
 #[derive(Clone, Copy, Debug, PartialEq, Eq)]
 pub enum Refusal {
-    // No tree has this height.
+    /// No tree has this height.
     Height(u32),
-    // The tree has no subtrees of this height.
+    /// The tree has no subtrees of this height.
     Subtree(u32),
-    // The table is too short; it should have had so many cells.
+    /// The table is too short; it should have had so many cells.
     Table(usize),
-    // The source has only so many numbers, fewer than the tree has leaves.
+    /// The source has only so many numbers, fewer than the tree has leaves.
     Source(u32),
-    // A token is missing.
+    /// A token is missing.
     Token(Lack),
 }
 
 impl Refusal {
-    // The number by which a refusal is known outside.
+    /// The number by which a refusal is known outside.
     pub fn number(self) -> u8
         ensures { result ≡ (numbered self).0 }
     {

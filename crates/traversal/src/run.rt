@@ -6,7 +6,7 @@ use crate::refusal::Refusal;
 use crate::state::Run;
 
 impl Run {
-    // The root of the tree, from the table.
+    /// The root of the tree, from the table.
     pub fn root<N: Copy>(&self, table: &[N]) -> Result<N, Refusal>
         ensures { Rooted self.now table.now result }
     {
@@ -16,7 +16,7 @@ impl Run {
         Ok(table[0])
     }
 
-    // Ends the run; answers what it came to.
+    /// Ends the run; answers what it came to.
     pub fn close(self) -> Totals
         ensures { result ≡ totals self }
     {

@@ -4,20 +4,20 @@ ghost use Rattle.traversal.specs.Units.{Standing};
 use crate::treehash::Treehash;
 use tree::geometry::Shape;
 
-// The initialisation of a fractal traversal: a treehash over all leaves, which keeps the root and the first
-// subtree of each level. It is plain numbers; the nodes lie in the caller's table. It is turned into a run
-// when it is complete, or abandoned.
+/// The initialisation of a fractal traversal: a treehash over all leaves, which keeps the root and the first
+/// subtree of each level. It is plain numbers; the nodes lie in the caller's table. It is turned into a run
+/// when it is complete, or abandoned.
 pub struct Draft {
     pub(crate) shape: Shape,
     pub(crate) hash: Treehash,
     ghost standing: { Standing (draft_plot shape.height shape.subtree) hash },
 }
 
-// An initialised fractal traversal: how far it has come, in plain numbers. It is closed at the end.
+/// An initialised fractal traversal: how far it has come, in plain numbers. It is closed at the end.
 pub struct Run {
     pub(crate) shape: Shape,
     pub(crate) pulls: u64,
-    // The leaves and the joins that the draft made, and those that the pulls made.
+    /// The leaves and the joins that the draft made, and those that the pulls made.
     pub(crate) drafted: (u64, u64),
     pub(crate) pulled: (u64, u64),
 }

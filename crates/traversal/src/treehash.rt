@@ -1,28 +1,28 @@
 ghost use Rattle.std.specs.Prelude.{◌≡◌, ◌-◌, ◌<◌, ◌≤◌};
 ghost use Rattle.growth.specs.Order.{join_due};
 
-// How far a treehash has come: a tree that is made leaf by leaf, two nodes of equal height on top of the
-// stack being joined at once.
+/// How far a treehash has come: a tree that is made leaf by leaf, two nodes of equal height on top of the
+/// stack being joined at once.
 #[derive(Clone, Copy, Debug, Default, PartialEq, Eq)]
 pub struct Treehash {
     pub(crate) leaves: u32,
     pub(crate) joins: u32,
-    // The height of the newest node; 0 before the first.
+    /// The height of the newest node; 0 before the first.
     pub(crate) newest: u32,
-    // How many nodes lie on the stack, having no cell of their own. The stack is the front of a slice of the
-    // table, which is lent for a call, so only its length is kept.
+    /// How many nodes lie on the stack, having no cell of their own. The stack is the front of a slice of the
+    /// table, which is lent for a call, so only its length is kept.
     pub(crate) stacked: usize,
 }
 
 impl Treehash {
-    // The leaves and the joins made so far.
+    /// The leaves and the joins made so far.
     pub(crate) fn pair(&self) -> (u64, u64)
         ensures { result ≡ (self.now.leaves, self.now.joins) }
     {
         (u64::from(self.leaves), u64::from(self.joins))
     }
 
-    // The leaves and the joins made since the treehash was as before.
+    /// The leaves and the joins made since the treehash was as before.
     pub(crate) fn since(&self, before: Treehash) -> (u64, u64)
         requires { (before.leaves ≤ self.now.leaves) × (before.joins ≤ self.now.joins) }
         ensures { result ≡ (self.now.leaves - before.leaves, self.now.joins - before.joins) }
@@ -33,7 +33,7 @@ impl Treehash {
         )
     }
 
-    // Whether the two nodes on top of the stack have equal height: the newest one is a right child.
+    /// Whether the two nodes on top of the stack have equal height: the newest one is a right child.
     pub(crate) fn is_join_due(&self) -> bool
         requires { self.now.newest < 32 }
         ensures { result ≡ join_due self.now.leaves self.now.newest }

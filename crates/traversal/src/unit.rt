@@ -13,7 +13,7 @@ use tree::maker::Maker;
 use tree::source::Source;
 
 impl Growing {
-    // One unit: a join if one is due, and otherwise the leaf of the next token.
+    /// One unit: a join if one is due, and otherwise the leaf of the next token.
     pub(crate) fn unit<M: Maker, S: Source>(
         &mut self,
         lent: &mut Lent<M, S>,
@@ -32,7 +32,7 @@ impl Growing {
         }
     }
 
-    // Makes the leaf of the next token, unless that is missing.
+    /// Makes the leaf of the next token, unless that is missing.
     fn leaf<M: Maker, S: Source>(&mut self, lent: &mut Lent<M, S>) -> Result<(), UnitFault>
         requires unfinished { Unfinished self.old.plot self.old.hash }
         requires room { Room (layout self.old.plot) (depth self.old.plot) (length lent.old.table.now) }
@@ -59,7 +59,7 @@ impl Growing {
         Ok(())
     }
 
-    // Joins the newest node and its left sibling.
+    /// Joins the newest node and its left sibling.
     fn join<M: Maker, S: Source>(&mut self, lent: &mut Lent<M, S>)
         requires room { Room (layout self.old.plot) (depth self.old.plot) (length lent.old.table.now) }
         requires due { join_due self.old.hash.leaves self.old.hash.newest ≡ true }

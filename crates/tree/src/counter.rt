@@ -1,7 +1,7 @@
 ghost use Rattle.std.specs.Prelude.{◌≡◌, ◌^◌, ◌<◌};
 ghost use Rattle.tree.specs.Meaning.{reading, after};
 
-// A maker's meter: the leaves and the joins that it has made, each modulo 2^64.
+/// A maker's meter: the leaves and the joins that it has made, each modulo 2^64.
 #[derive(Drop)]
 pub struct Counter {
     leaves: u64,
@@ -21,7 +21,7 @@ impl Counter {
         }
     }
 
-    // Two calls and not one for any counts, since `count_leaf()` says more than `count(1, 0)`.
+    /// Two calls and not one for any counts, since `count_leaf()` says more than `count(1, 0)`.
     pub fn count_leaf(&mut self)
         ensures { metered self.new ≡ after 1 0 (metered self.old) }
     {

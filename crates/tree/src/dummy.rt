@@ -11,8 +11,8 @@ use crate::kind::Kind;
 use crate::maker::Maker;
 use crate::span::{Interval, Span};
 
-// The dummy maker: hashes nothing, so that a run can be tried without a licence, and its nodes tell
-// where in the tree they stand.
+/// The dummy maker: hashes nothing, so that a run can be tried without a licence, and its nodes tell
+/// where in the tree they stand.
 #[derive(Drop)]
 pub struct Dummy {
     counter: Counter,
@@ -79,13 +79,13 @@ impl Maker for Dummy {
     }
 }
 
-// A node's bytes: four for the first number and one for the height.
+/// A node's bytes: four for the first number and one for the height.
 pub(crate) const WIDTH: usize = 5;
 
-// Any byte of the broken span.
+/// Any byte of the broken span.
 const BROKEN: u8 = 255;
 
-// The span of 2^height leaves from `first` on.
+/// The span of 2^height leaves from `first` on.
 fn span_of(first: u32, height: u8) -> Span
     ensures { result ≡ span first height }
 {
@@ -126,7 +126,7 @@ impl From<Span> for [u8; WIDTH] {
     }
 }
 
-// The node that bytes are, if they are one.
+/// The node that bytes are, if they are one.
 fn read_span(bytes: &[u8; WIDTH]) -> Option<Span>
     ensures { result ≡ read_span bytes.now }
 {

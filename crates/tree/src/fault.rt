@@ -3,14 +3,14 @@ ghost use Rattle.tree.specs.Refusals.{short_numbered, cause_text};
 
 use std::fmt;
 
-// A slice is too short for what should go into it or come out of it.
+/// A slice is too short for what should go into it or come out of it.
 #[derive(Clone, Copy, Debug, PartialEq)]
 pub struct TooShort {
     pub needed: usize,
 }
 
 impl TooShort {
-    // The number by which a refusal is known outside.
+    /// The number by which a refusal is known outside.
     pub fn number(self) -> u8
         ensures { result ≡ (short_numbered self).0 }
     {
@@ -18,7 +18,7 @@ impl TooShort {
     }
 }
 
-// Why a source gives no token: it was spoiled, or the number is past the source's end.
+/// Why a source gives no token: it was spoiled, or the number is past the source's end.
 #[derive(Clone, Copy, Debug, PartialEq, Eq)]
 pub enum Cause {
     Torn,
@@ -36,7 +36,7 @@ impl fmt::Display for Cause {
     }
 }
 
-// A source has no token of this number.
+/// A source has no token of this number.
 #[derive(Clone, Copy, Debug, PartialEq, Eq)]
 pub struct Missing {
     pub number: u32,

@@ -5,17 +5,17 @@ ghost use Rattle.tree.specs.Geometry.{legal_subtree, table_size, Shaped, Sizes};
 use crate::height::is_height;
 use crate::refusal::Refusal;
 
-// The greatest height of a subtree.
+/// The greatest height of a subtree.
 const GREATEST: u32 = 10;
 
-// Whether a tree of this height has subtrees of that height.
+/// Whether a tree of this height has subtrees of that height.
 pub fn is_subtree(height: u32, subtree: u32) -> bool
     ensures { result ≡ legal_subtree height subtree }
 {
     (1..=GREATEST).contains(&subtree) && height % subtree == 0
 }
 
-// The shape of a traversal: the height of its tree, that of its subtrees, and how many cells its table has.
+/// The shape of a traversal: the height of its tree, that of its subtrees, and how many cells its table has.
 #[derive(Clone, Copy)]
 pub struct Shape {
     pub height: u32,
@@ -27,7 +27,7 @@ pub struct Shape {
 impl Shape {
     ghost use Rattle.tree.specs.Shapes.{Shapes};
 
-    // The shape for two heights.
+    /// The shape for two heights.
     pub fn new(height: u32, subtree: u32) -> Result<Shape, Refusal>
         ensures { Shapes height subtree result }
     {
@@ -45,14 +45,14 @@ impl Shape {
     }
 }
 
-// How many cells the table of a traversal has.
+/// How many cells the table of a traversal has.
 pub fn size(height: u32, subtree: u32) -> Result<usize, Refusal>
     ensures { Sizes height subtree result }
 {
     Ok(Shape::new(height, subtree)?.cells)
 }
 
-// The same for heights that are in order.
+/// The same for heights that are in order.
 fn cells(height: usize, subtree: usize) -> usize
     requires height { legal_height height ≡ true }
     requires subtree { legal_subtree height subtree ≡ true }

@@ -5,7 +5,7 @@ use crate::{dummy, sealed};
 use std::error::Error;
 use std::fmt;
 
-// The kinds of makers.
+/// The kinds of makers.
 #[derive(Clone, Copy, Debug, PartialEq, Eq)]
 pub enum Kind {
     Sealed,
@@ -13,7 +13,7 @@ pub enum Kind {
 }
 
 impl Kind {
-    // How many bytes a node has.
+    /// How many bytes a node has.
     pub fn width(self) -> usize
         ensures { result ≡ node_width self }
     {
@@ -36,7 +36,7 @@ impl From<Kind> for u8 {
     }
 }
 
-// A byte that names no kind.
+/// A byte that names no kind.
 #[derive(Clone, Copy, Debug, PartialEq, Eq)]
 pub struct UnknownKind(pub u8);
 

@@ -5,16 +5,16 @@ ghost use Rattle.tree.specs.Supplying.{list_supplies};
 use crate::fault::{Cause, Missing};
 use crate::source::Source;
 
-// How many bytes an entry has: a mark and a token.
+/// How many bytes an entry has: a mark and a token.
 const ENTRY: usize = 33;
 
-// The mark of a token that is present.
+/// The mark of a token that is present.
 const PRESENT: u8 = 1;
 
-// The greatest size of a source.
+/// The greatest size of a source.
 const GREATEST: usize = 1 << 20;
 
-// Tokens from a list of entries in bytes.
+/// Tokens from a list of entries in bytes.
 #[derive(Drop)]
 pub struct ListSource<'a> {
     bytes: &'a [u8],
@@ -27,7 +27,7 @@ impl<'a> ListSource<'a> {
         ListSource { bytes }
     }
 
-    // The token of a number, or why there is none.
+    /// The token of a number, or why there is none.
     fn find(&self, number: u32) -> Result<&[u8], Cause>
         ensures { Finds (list_supply self.now.bytes.now) number result }
     {

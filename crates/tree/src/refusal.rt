@@ -4,18 +4,18 @@ ghost use Rattle.tree.specs.Refusals.{numbered, refusal_text};
 use std::error::Error;
 use std::fmt;
 
-// Why a call on a tree does nothing.
+/// Why a call on a tree does nothing.
 #[derive(Clone, Copy, Debug, PartialEq, Eq)]
 pub enum Refusal {
-    // No tree has this height.
+    /// No tree has this height.
     Height(u32),
-    // The tree has no subtrees of this height.
+    /// The tree has no subtrees of this height.
     Subtree(u32),
 }
 
 impl Refusal {
-    // The number by which a refusal is known outside. It is one fact of a refusal and not the refusal in another
-    // form, so this is no conversion.
+    /// The number by which a refusal is known outside. It is one fact of a refusal and not the refusal in another
+    /// form, so this is no conversion.
     pub fn number(self) -> u8
         ensures { result ≡ (numbered self).0 }
     {

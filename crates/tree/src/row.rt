@@ -1,6 +1,6 @@
 ghost use Rattle.std.specs.Prelude.{◌≡◌, ◌+◌, ◌++◌, length};
 
-// Two slices in a row.
+/// Two slices in a row.
 pub(crate) fn in_row<const N: usize>(left: &[u8], right: &[u8]) -> [u8; N]
     requires { length left.now + length right.now ≡ N }
     ensures { result ≡ left.now ++ right.now }

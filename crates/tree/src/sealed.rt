@@ -13,13 +13,13 @@ use crate::maker::Maker;
 use crate::row::in_row;
 use hashing::digest;
 
-// A node's bytes.
+/// A node's bytes.
 pub(crate) const WIDTH: usize = 32;
 
-// The bytes of two nodes.
+/// The bytes of two nodes.
 const PAIR: usize = 2 * WIDTH;
 
-// The sealed maker: plain SHA-256, of the token for a leaf and of both children for a join.
+/// The sealed maker: plain SHA-256, of the token for a leaf and of both children for a join.
 #[derive(Drop)]
 pub struct Sealed {
     counter: Counter,

@@ -7,16 +7,16 @@ use crate::row::in_row;
 use crate::source::Source;
 use hashing::digest;
 
-// How many bytes a seed has.
+/// How many bytes a seed has.
 const SEED: usize = 32;
 
-// How many bytes a token is the hash of: the seed and a number.
+/// How many bytes a token is the hash of: the seed and a number.
 const SEEDED: usize = SEED + 4;
 
-// How many tokens a seed yields.
+/// How many tokens a seed yields.
 const TOKENS: u32 = 1 << 20;
 
-// Tokens from a secret seed.
+/// Tokens from a secret seed.
 #[derive(Drop)]
 pub struct SeedSource {
     seed: [u8; SEED],
@@ -29,7 +29,7 @@ impl SeedSource {
         SeedSource { seed }
     }
 
-    // Takes another seed, the first 32 bytes of a slice.
+    /// Takes another seed, the first 32 bytes of a slice.
     pub fn reseed(&mut self, seed: &[u8]) -> Result<(), TooShort>
         ensures { Reseeds self.old.seed seed.now self.new.seed result }
     {

@@ -1,7 +1,7 @@
 ghost use Rattle.std.specs.Prelude.{◌≡◌, ◌+◌, ◌^◌, ◌≤◌, true, false, MatchOption};
 ghost use Rattle.tree.specs.Numbers.{aligned};
 
-// The numbers of the leaves below a node: 2^height of them from `first` on, all below 2^20.
+/// The numbers of the leaves below a node: 2^height of them from `first` on, all below 2^20.
 #[derive(Clone, Copy, PartialEq, Eq)]
 pub struct Interval {
     pub first: u32,
@@ -9,13 +9,13 @@ pub struct Interval {
     ghost whole: { aligned first height ≡ true },
 }
 
-// No interval passes this height, or this number of leaves.
+/// No interval passes this height, or this number of leaves.
 const TOP: u8 = 20;
 
 const LEAVES: u32 = 1 << TOP;
 
 impl Interval {
-    // The 2^height numbers from `first` on, if they are those of the leaves below a node.
+    /// The 2^height numbers from `first` on, if they are those of the leaves below a node.
     pub(crate) fn new(first: u32, height: u8) -> Option<Interval>
         ensures { MatchOption result (aligned first height ≡ false) (λ a. (a.first ≡ first) × (a.height ≡ height)) }
     {
@@ -26,7 +26,7 @@ impl Interval {
         }
     }
 
-    // The number after the last.
+    /// The number after the last.
     pub(crate) fn end(self) -> u32
         ensures { result ≡ self.first + 2 ^ self.height }
     {
@@ -34,7 +34,7 @@ impl Interval {
     }
 }
 
-// Whether 2^height leaves from `first` on are the leaves below a node.
+/// Whether 2^height leaves from `first` on are the leaves below a node.
 fn is_whole(first: u32, height: u8) -> bool
     ensures { result ≡ aligned first height }
 {
@@ -45,7 +45,7 @@ fn is_whole(first: u32, height: u8) -> bool
     first % count == 0 && first <= LEAVES - count
 }
 
-// How many leaves lie below a node of this height.
+/// How many leaves lie below a node of this height.
 fn leaves_below(height: u8) -> u32
     requires { height ≤ 20 }
     ensures value { result ≡ 2 ^ height }
@@ -54,7 +54,7 @@ fn leaves_below(height: u8) -> u32
     1 << height
 }
 
-// A node of the dummy maker. What is no node of a tree in order is broken.
+/// A node of the dummy maker. What is no node of a tree in order is broken.
 #[derive(Clone, Copy, PartialEq, Eq)]
 pub enum Span {
     Sound(Interval),
