@@ -92,7 +92,7 @@ fn message<const N: usize>(front: [u8; 32]) -> [u8; N]
     row
 }
 
-/// Writes a digest to the front of `out`, if there is room.
+/// Writes a digest to the front of `out`, if there is room: a `bool`, as the calls for C answer.
 fn write_front(digest: [u8; 32], out: &mut [u8]) -> bool
     ensures short { length out.old < 32 → (result ≡ false) × (out.new ≡ out.old) }
     ensures written { 32 ≤ length out.old → (result ≡ true) × (out.new ≡ digest ++ drop 32 out.old) }

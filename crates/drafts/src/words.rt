@@ -21,7 +21,7 @@ impl fmt::Display for Made {
     }
 }
 
-/// The answer of a step, to be shown.
+/// The answer of a step, to be shown; `Result` has no `Display`.
 #[derive(Clone, Copy)]
 pub struct Answer(pub Result<(u64, u64), Refusal>);
 

@@ -7,7 +7,7 @@ ghost use Rattle.hashing.specs.Sha256.{sha256};
 
 const DIGEST: usize = 32;
 
-/// Writes the hash of `message` to the front of `out`, if there is room.
+/// Writes the hash of `message` to the front of `out`, if there is room: a `bool`, since C has no `Result`.
 #[unsafe(no_mangle)]
 pub extern "C" fn bench_digest(message: &[u8], out: &mut [u8]) -> bool
     ensures short { length out.old < 32 → (result ≡ false) × (out.new ≡ out.old) }

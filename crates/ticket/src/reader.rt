@@ -128,7 +128,7 @@ fn named(first: u8) -> Option<Kind>
     }
 }
 
-/// The name of a maker and the line's end.
+/// The name of a maker and the line's end; as bytes, since a kind prints itself only where there is memory.
 fn kind_line(kind: Kind) -> &'static [u8]
     ensures { result.now ≡ kind_line kind }
 {

@@ -10,7 +10,8 @@ pub struct Incomplete {
 }
 
 impl Incomplete {
-    /// The number by which a refusal is known outside.
+    /// The number by which a refusal is known outside. It is one fact of a refusal, not the refusal in another
+    /// form, so this is no conversion.
     pub fn number(&self) -> u8
         ensures { result ≡ incomplete_number }
     {

@@ -5,7 +5,8 @@ use crate::fault::TooShort;
 
 /// A hash scheme for Merkle trees: how leaves and inner nodes are made, compared and put into bytes. The
 /// meaning belongs to the value, so two makers of one type may mean different functions. Every leaf and
-/// every join is counted, since hashing is licensed by the node.
+/// every join is counted, since hashing is licensed by the node. A function that takes a maker mutably says in
+/// its contract that the meaning stays: no law of the trait can speak of other functions.
 pub trait Maker {
     type Node: Copy;
 

@@ -54,7 +54,8 @@ fn leaves_below(height: u8) -> u32
     1 << height
 }
 
-/// A node of the dummy maker. What is no node of a tree in order is broken.
+/// A node of the dummy maker. What is no node of a tree in order is broken. It is no `Option`: the broken span
+/// is a node with bytes of its own, and reading answers an `Option` of a node.
 #[derive(Clone, Copy, PartialEq, Eq)]
 pub enum Span {
     Sound(Interval),
