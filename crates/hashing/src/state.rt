@@ -161,6 +161,8 @@ fn words_of(block: &[u8; BLOCK]) -> [u32; RUN]
 }
 
 /// The words of the schedule that follow sixteen words.
+// By index: a new word needs three others, of which some are new already, so no iterator over the words lends
+// what it takes.
 fn following(mut words: [u32; RUN]) -> [u32; RUN]
     ensures { (m : List ℕ) (t : ℕ) → HasWords m t words → HasWords m (t + 16) result }
 {

@@ -35,6 +35,7 @@ pub fn each_change<E, F: FnMut(Damage, &[u8]) -> Result<(), E>>(
     ensures kept { bytes.new ≡ bytes.old }
     ensures shown { OnOk result ((last : F) × FoldsTo (Told F.step bytes.old) show (changes masks.now bytes.old) last) }
 {
+    // By index: the place is shown, and the whole is lent to `show` while one of its bytes is changed.
     for place in 0..bytes.len() {
         for mask in masks {
             bytes[place] ^= *mask;
