@@ -44,11 +44,7 @@ pub extern "C" fn strips_strip_length(kind: u32, height: u32) -> u64
     }
 }
 
-<<<<<<< HEAD
-/// The kind of a number, if it is one's.
-=======
-// The kind that a number from C names, if it names one.
->>>>>>> origin/strip
+/// The kind that a number from C names, if it names one.
 fn kind_of(number: u32) -> Option<Kind>
     ensures named { IfSome result (λ kind. kind_byte kind ≡ number) }
     ensures none { IsNone result → (kind : Kind) → kind_byte kind ≢ number }

@@ -42,8 +42,7 @@ impl Home {
                 stacked
             }
             Home::Subtree { start, offset } => {
-                let section = &mut table[start..];
-                section[offset] = node;
+                put(&mut table[start..], offset, node);
                 stacked
             }
             Home::Stack { tail } => push_on(&mut table[tail..], stacked, node),
@@ -60,13 +59,26 @@ impl Home {
     {
         match self {
             Home::Root => (table[0], stacked),
-            Home::Subtree { start, offset } => {
-                let section = &table[start..];
-                (section[offset], stacked)
-            }
+            Home::Subtree { start, offset } => (get(&table[start..], offset), stacked),
             Home::Stack { tail } => (top_of(&mut table[tail..], stacked), stacked - 1),
         }
     }
+}
+
+/// Puts a node into a cell of a section.
+fn put<N: Copy>(section: &mut [N], offset: usize, node: N)
+    requires { offset < length section.old }
+    ensures { section.new ≡ slice_set section.old offset node }
+{
+    section[offset] = node;
+}
+
+/// The node in a cell of a section.
+fn get<N: Copy>(section: &[N], offset: usize) -> N
+    requires { offset < length section.now }
+    ensures { result ≡ slice_index_or section.now offset result }
+{
+    section[offset]
 }
 
 /// The cells of a subtree.
