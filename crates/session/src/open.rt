@@ -1,9 +1,8 @@
 ghost use Rattle.std.specs.Prelude.{length};
-ghost use Rattle.traversal.specs.Worlds.{world_of};
+ghost use Rattle.traversal.specs.Worlds.{world};
 ghost use Rattle.traversal.specs.Calls.{Begun};
 ghost use Rattle.session.specs.Law.{LawfulFrom};
 
-use traversal::lent::Lent;
 use traversal::refusal::Refusal;
 use traversal::state::Draft;
 use tree::maker::Maker;
@@ -14,10 +13,13 @@ use tree::source::Source;
 pub fn open<M: Maker, S: Source>(
     height: u32,
     subtree: u32,
-    lent: &Lent<M, S>,
+    table: &[M::Node],
+    maker: &M,
+    source: &S,
 ) -> Result<Draft, Refusal>
-    ensures begun { Begun height subtree (length lent.now.table.now) (S.supply lent.now.source.now) result }
-    ensures lawful { LawfulFrom height subtree (world_of M.meaning M.meter S.supply lent.now) result }
+    ensures begun { Begun height subtree (length table.now) (S.supply source.now) result }
+    ensures lawful { LawfulFrom height subtree (world table.now (M.meaning maker.now) (M.meter maker.now) (S.supply source.now)) result }
 {
-    Draft::begin(height, subtree, lent.table, lent.source)
+    let _ = maker;
+    Draft::begin(height, subtree, table, source)
 }

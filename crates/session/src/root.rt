@@ -1,10 +1,9 @@
 ghost use Rattle.std.specs.Prelude.{◌≡◌, ◌<◌, ◌≤◌, length, Some};
 ghost use Rattle.traversal.specs.declared.refusal.Refusal.{Refusal as Refused};
 ghost use Rattle.traversal.specs.Worlds.{world_of, SameLoans};
-ghost use Rattle.traversal.specs.Calls.{units, units_in_all, unit_lacks};
+ghost use Rattle.traversal.specs.Calls.{units, units_in_all, unit_lacks, Begun};
 ghost use Rattle.session.specs.Root.{DraftsRoot, Finished};
 
-use crate::open::open;
 use traversal::lent::Lent;
 use traversal::outcome::Incomplete;
 use traversal::refusal::Refusal;
@@ -21,12 +20,23 @@ pub fn root<M: Maker, S: Source>(
     ensures drafted { DraftsRoot height subtree (world_of M.meaning M.meter S.supply lent.old) result (world_of M.meaning M.meter S.supply lent.new) }
     ensures same_loans { SameLoans lent.old lent.new }
 {
-    let mut draft = open(height, subtree, lent)?;
+    let mut draft = begin(height, subtree, lent)?;
     let _ = draft.step(lent, u64::MAX);
     match draft.turn() {
         Ok(run) => finish(run, lent),
         Err(Incomplete { draft, missing: _ }) => Err(lack(draft, lent)),
     }
+}
+
+/// Begins a draft with what is lent. Of what lies behind a `&mut` the check lends one field at a time.
+fn begin<M: Maker, S: Source>(
+    height: u32,
+    subtree: u32,
+    lent: &Lent<M, S>,
+) -> Result<Draft, Refusal>
+    ensures { Begun height subtree (length lent.now.table.now) (S.supply lent.now.source.now) result }
+{
+    Draft::begin(height, subtree, lent.table, lent.source)
 }
 
 /// The root and what the draft made, of a run that is closed.
