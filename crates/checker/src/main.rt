@@ -25,11 +25,11 @@ fn run(rt: &HostRuntime) -> anyhow::Result<()> {
     for line in rt.lines(heap) {
         lines.push(line?)?;
     }
-    let [root, strip] = lines.as_slice() else {
+    let [root, strip] = &lines[..] else {
         return Err(anyhow!("two lines are wanted: the root, and then the strip"));
     };
     let root = decode(heap, root.as_bytes())?;
     let strip = decode(heap, strip.as_bytes())?;
-    rt.println(answer(heap, judge(root.as_slice(), strip.as_slice()))?)?;
+    rt.println(answer(heap, judge(&root, &strip))?)?;
     Ok(())
 }

@@ -14,10 +14,6 @@ use text::hex::decode;
 const BITS: [u8; 2] = [1, 128];
 
 fn main(rt: HostRuntime) -> anyhow::Result<()> {
-    run(&rt)
-}
-
-fn run(rt: &HostRuntime) -> anyhow::Result<()> {
     let heap = rt.alloc();
     // the root whose strip comes next
     let mut waiting = None;
@@ -25,23 +21,23 @@ fn run(rt: &HostRuntime) -> anyhow::Result<()> {
         let bytes = decode(heap, line?.as_bytes())?;
         match waiting.take() {
             None => waiting = Some(bytes),
-            Some(root) => judge_all(rt, root.as_slice(), bytes)?,
+            Some(root) => judge_all(&rt, &root, bytes)?,
         }
     }
     Ok(())
 }
 
 fn judge_all(rt: &HostRuntime, root: &[u8], mut strip: Vec<u8>) -> anyhow::Result<()> {
-    tell(rt, "whole", root, strip.as_slice())?;
-    each_change(strip.as_mut_slice(), &BITS, |damage, strip| {
+    tell(rt, "whole", root, &strip)?;
+    each_change(&mut strip, &BITS, |damage, strip| {
         tell(rt, damage, root, strip)
     })?;
-    let strip = strip.as_slice();
+    let strip = &strip[..];
     each_cut(strip, |damage, strip| tell(rt, damage, root, strip))?;
     let one_more = joined(rt.alloc(), strip, &[0])?;
-    tell(rt, "one more", root, one_more.as_slice())?;
+    tell(rt, "one more", root, &one_more)?;
     let doubled = joined(rt.alloc(), strip, strip)?;
-    tell(rt, "doubled", root, doubled.as_slice())
+    tell(rt, "doubled", root, &doubled)
 }
 
 fn joined(heap: Global, one: &[u8], other: &[u8]) -> Result<Vec<u8>, AllocError> {

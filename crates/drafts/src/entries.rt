@@ -3,9 +3,10 @@ use std::alloc::Global;
 /// How many bytes a token has.
 const TOKEN: usize = 32;
 
-/// The mark of a token that is present, and one that is not.
+/// The mark of a token that is present.
 const PRESENT: u8 = 1;
 
+/// A mark of a token that is torn.
 const TORN: u8 = 2;
 
 /// Entries of a list source, in which all bytes of a token are its number. One of the tokens may be torn.

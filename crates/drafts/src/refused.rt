@@ -11,12 +11,13 @@ use tree::list::ListSource;
 use tree::sealed::Sealed;
 use tree::source::Source;
 
-/// The heights of the drafts here, and the tokens that they take.
+/// The heights of the drafts here.
 const HEIGHTS: Heights = Heights {
     height: 4,
     subtree: 2,
 };
 
+/// The tokens that a draft of these heights takes.
 const TOKENS: u8 = 16;
 
 /// The cells of the table.

@@ -51,12 +51,13 @@ const NODES: [(Heights, usize); 2] = [
     ),
 ];
 
-/// The heights whose table is printed after each unit, and the steps, one more than it has units.
+/// The heights whose table is printed after each unit.
 const WATCHED: Heights = Heights {
     height: 4,
     subtree: 1,
 };
 
+/// The steps of that draft, one more than it has units.
 const STEPS: u32 = 32;
 
 /// Drafts of all heights with both makers, by each budget.

@@ -34,8 +34,8 @@ impl fmt::Display for Answer {
     }
 }
 
-/// What became of a draft: the run that it was turned into, closed, with the root in hex; or the refusal of the
-/// turn.
+/// What became of a draft: the run that it was turned into, closed, with the root in hex or the refusal of the
+/// root; or the refusal of the turn.
 #[derive(Drop)]
 pub enum Ending {
     Closed {

@@ -16,7 +16,7 @@ use tree::source::Source;
 const BITS: [u8; 2] = [1, 64];
 
 /// Heights of trees and of their subtrees, legal and not.
-const SHAPES: [(u32, u32); 8] = [
+const HEIGHTS: [(u32, u32); 8] = [
     (1, 1),
     (4, 1),
     (4, 2),
@@ -28,21 +28,15 @@ const SHAPES: [(u32, u32); 8] = [
 ];
 
 fn main(rt: HostRuntime) -> anyhow::Result<()> {
-    run(&rt)
-}
-
-fn run(rt: &HostRuntime) -> anyhow::Result<()> {
     let mut text = Vec::new(rt.alloc());
     rt.stdin().read_to_end(&mut text)?;
-    tell(rt, "whole", text.as_slice())?;
-    each_change(text.as_mut_slice(), &BITS, |damage, text| {
-        tell(rt, damage, text)
-    })?;
-    each_cut(text.as_slice(), |damage, text| tell(rt, damage, text))?;
+    tell(&rt, "whole", &text)?;
+    each_change(&mut text, &BITS, |damage, text| tell(&rt, damage, text))?;
+    each_cut(&text, |damage, text| tell(&rt, damage, text))?;
     text.push(b'\n')?;
-    tell(rt, "one more", text.as_slice())?;
-    for (height, subtree) in SHAPES {
-        tell_size(rt, height, subtree)?;
+    tell(&rt, "one more", &text)?;
+    for (height, subtree) in HEIGHTS {
+        tell_size(&rt, height, subtree)?;
     }
     Ok(())
 }
