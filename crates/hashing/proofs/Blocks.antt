@@ -5,6 +5,7 @@ use Rattle.std.proofs.lemmas.List.{drop-append-le, drop-drop, drop_at, get_or-dr
 use Rattle.std.specs.Int.{from_be_bytes}
 use Rattle.std.specs.List.{fold}
 use Rattle.std.specs.Simd.{first_chunks}
+use Rattle.hashing.proofs.Chunks.{chunk_at}
 use Rattle.hashing.specs.declared.state.State.{State}
 use Rattle.hashing.specs.Sha256.{block, compressed, hashed, hashed_all, word_at}
 
@@ -38,14 +39,6 @@ unfolding hashed_all
 hashed_all_append H xs ys h =
     let count : length (xs ++ ys) / 64 ≡ length xs / 64 + length ys / 64 = rw length-append (omega arith) in
     rw count (hashed_back H xs ys (length xs / 64) (length ys / 64) (omega arith))
-
--- chunk j of n elements
-pub chunk_at : (n k j : ℕ) (xs : List ℕ) → j < k → get_or (first_chunks n k xs) j [] ≡ take n (drop (n * j) xs)
-chunk_at n zero j xs h = absurd (omega arith)
-chunk_at n (suc k) zero xs h = let none : n * 0 ≡ 0 = omega arith in ap (λ i. take n (drop i xs)) (sym none)
-chunk_at n (suc k) (suc j) xs h =
-    let next : n + n * j ≡ n * suc j = omega arith in
-    chunk_at n k j (drop n xs) (omega arith) ∙ ap (take n) (drop-drop (n * j) n xs ∙ ap (λ i. drop i xs) next)
 
 pub hashed_is : (H : State) (xs : List ℕ) (k : ℕ) → 64 * k ≤ length xs → fold compressed H (first_chunks 64 k xs) ≡ hashed H xs k
 unfolding hashed block

@@ -106,6 +106,7 @@ impl State {
     }
 
     /// The hash value after one more block.
+    // The last row is taken by index: the check does not cover the pattern `[front @ .., last]` on the table.
     fn compress(self, block: &[u8; BLOCK]) -> State
         ensures { result ≡ compressed self block.now }
     {
@@ -138,7 +139,7 @@ impl State {
     }
 }
 
-/// The words in a row, each with its most significant byte first.
+// The words in a row, each with its most significant byte first.
 impl From<State> for [u8; 32] {
     ghost from_gives = { λ state bytes. bytes ≡ bytes_of state };
 

@@ -1,20 +1,13 @@
 -- The entries of a list.
-use Rattle.std.proofs.Common.{◌≡◌, ℕ, zero, suc, ◌+◌, ◌-◌, ◌*◌, ◌<◌, ◌≤◌, List, [], length, get_or, take, drop, sym, ap, ap₂, ◌∙◌, arith, lit<, lit≤, mul-zero, add-zero, ◌/◌, ◌^◌, eqb, ltb, Some, None, length-take, length-drop}
+use Rattle.std.proofs.Common.{◌≡◌, ℕ, ◌+◌, ◌-◌, ◌*◌, ◌<◌, ◌≤◌, List, length, get_or, take, drop, sym, ap, ap₂, ◌∙◌, arith, lit<, lit≤, add-zero, ◌/◌, ◌^◌, eqb, ltb, Some, None, length-take, length-drop}
 use Rattle.std.specs.Prelude.{min, Err}
 use Rattle.std.proofs.lemmas.Bool.{cond-true, cond-false, eq-eqb, ne_eqb, lt-ltb}
 use Rattle.tree.specs.Supply.{presence, torn_unless}
 use Rattle.tree.specs.Entries.{list_supply}
 use Rattle.tree.specs.declared.fault.Cause.TheVariants.{Torn, Beyond}
-use Rattle.std.specs.Simd.{first_chunks}
 use Rattle.std.proofs.lemmas.List.{drop-drop, drop-take, get_or-take, get_or-drop, take-take}
-
--- chunk i of n elements begins at place n * i
-pub chunk_at : {A : Type 0} (n k i : ℕ) (xs : List A) → i < k → get_or (first_chunks n k xs) i [] ≡ take n (drop (n * i) xs)
-chunk_at n zero i xs less = absurd (omega arith)
-chunk_at n (suc k) zero xs less = ap (λ j. take n (drop j xs)) (sym (mul-zero n))
-chunk_at n (suc k) (suc i) xs less =
-    let next : n + n * i ≡ n * suc i = omega arith in
-    chunk_at n k i (drop n xs) (omega arith) ∙ ap (take n) (drop-drop (n * i) n xs ∙ ap (λ j. drop j xs) next)
+-- passed on to text, which does not use hashing
+pub use Rattle.hashing.proofs.Chunks.{chunk_at}
 
 -- entry n of a list, as a chunk: its mark and its token
 module _ (bs entry : List ℕ) (n : ℕ) (inside : 33 * n + 33 ≤ length bs) (is : entry ≡ take 33 (drop (33 * n) bs)) where

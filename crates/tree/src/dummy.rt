@@ -126,7 +126,7 @@ impl From<Span> for [u8; WIDTH] {
     }
 }
 
-/// The node that bytes are, if they are one.
+/// The node that bytes are, if they are one. It is no `TryFrom`: it answers an `Option`, as `Maker::read` does.
 fn read_span(bytes: &[u8; WIDTH]) -> Option<Span>
     ensures { result ≡ read_span bytes.now }
 {

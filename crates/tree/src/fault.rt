@@ -4,7 +4,7 @@ ghost use Rattle.tree.specs.Refusals.{short_numbered, cause_text};
 use std::fmt;
 
 /// A slice is too short for what should go into it or come out of it.
-#[derive(Clone, Copy, Debug, PartialEq)]
+#[derive(Clone, Copy, Debug, PartialEq, Eq)]
 pub struct TooShort {
     pub needed: usize,
 }
@@ -19,7 +19,7 @@ impl TooShort {
     }
 }
 
-/// Why a source gives no token: it was spoiled, or the number is past the source's end.
+/// Why a source gives no token: the token is torn, or its number is past the source's end.
 #[derive(Clone, Copy, Debug, PartialEq, Eq)]
 pub enum Cause {
     Torn,

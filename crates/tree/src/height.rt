@@ -1,10 +1,11 @@
 ghost use Rattle.std.specs.Prelude.{◌≡◌, ◌^◌, nat_lt};
 ghost use Rattle.tree.specs.Numbers.{legal_height};
 
-/// The least and the greatest height of a tree.
+/// The least height of a tree.
 const LEAST: u32 = 1;
 
-const GREATEST: u32 = 20;
+/// The greatest height of a tree.
+pub(crate) const GREATEST: u32 = 20;
 
 /// Whether a tree can have this height.
 pub fn is_height(height: u32) -> bool

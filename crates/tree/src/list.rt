@@ -3,6 +3,7 @@ ghost use Rattle.tree.specs.Entries.{list_supply, Finds};
 ghost use Rattle.tree.specs.Supplying.{list_supplies};
 
 use crate::fault::{Cause, Missing};
+use crate::height;
 use crate::source::Source;
 
 /// How many bytes an entry has: a mark and a token.
@@ -12,7 +13,7 @@ const ENTRY: usize = 33;
 const PRESENT: u8 = 1;
 
 /// The greatest size of a source.
-const GREATEST: usize = 1 << 20;
+const GREATEST: usize = 1 << height::GREATEST;
 
 /// Tokens from a list of entries in bytes.
 #[derive(Drop)]

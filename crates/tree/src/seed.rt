@@ -3,6 +3,7 @@ ghost use Rattle.tree.specs.Seeds.{seed_supply, Reseeds};
 ghost use Rattle.tree.specs.Supplying.{seed_supplies};
 
 use crate::fault::{Cause, Missing, TooShort};
+use crate::height::GREATEST;
 use crate::row::in_row;
 use crate::source::Source;
 use hashing::digest;
@@ -14,7 +15,7 @@ const SEED: usize = 32;
 const SEEDED: usize = SEED + 4;
 
 /// How many tokens a seed yields.
-const TOKENS: u32 = 1 << 20;
+const TOKENS: u32 = 1 << GREATEST;
 
 /// Tokens from a secret seed.
 #[derive(Drop)]
@@ -34,7 +35,7 @@ impl SeedSource {
         ensures { Reseeds self.old.seed seed.now self.new.seed result }
     {
         let front = seed.first_chunk::<SEED>().ok_or(TooShort { needed: SEED })?;
-        self.seed.copy_from_slice(front);
+        self.seed = *front;
         Ok(())
     }
 }

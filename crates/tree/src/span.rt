@@ -1,6 +1,8 @@
 ghost use Rattle.std.specs.Prelude.{◌≡◌, ◌+◌, ◌^◌, ◌≤◌, true, false, MatchOption};
 ghost use Rattle.tree.specs.Numbers.{aligned};
 
+use crate::height::GREATEST;
+
 /// The numbers of the leaves below a node: 2^height of them from `first` on, all below 2^20.
 #[derive(Clone, Copy, PartialEq, Eq)]
 pub struct Interval {
@@ -9,9 +11,10 @@ pub struct Interval {
     ghost whole: { aligned first height ≡ true },
 }
 
-/// No interval passes this height, or this number of leaves.
-const TOP: u8 = 20;
+/// The greatest height of an interval.
+const TOP: u8 = GREATEST as u8;
 
+/// How many leaves the highest tree has: no interval goes past them.
 const LEAVES: u32 = 1 << TOP;
 
 impl Interval {

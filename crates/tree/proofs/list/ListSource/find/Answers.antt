@@ -1,5 +1,6 @@
 use Rattle.std.proofs.Common.{◌≡◌, ℕ, ◌<◌, ◌≤◌, ◌+◌, ◌*◌, ◌/◌, get_or, length, take, drop, List, [], ap, ◌∙◌, rules, arith}
-use Rattle.tree.proofs.Listing.{chunk_at, entry_length, entry_there, entry_torn}
+use Rattle.hashing.proofs.Chunks.{chunk_at}
+use Rattle.tree.proofs.Listing.{entry_length, entry_there, entry_torn}
 use Rattle.tree.proofs.list.ListSource.find.Goals as goal
 use Rattle.tree.proofs.list.ListSource.find.Goals.{in_default-via-then-entry-lt1, in_default-via-else-entry-lt1+in_default-1}
 
