@@ -16,7 +16,7 @@ use tree::maker::Maker;
 use tree::source::Source;
 
 impl Draft {
-    /// Begins the initialisation of a traversal: of the tree of a height over the tokens of a source, with
+    /// Begins the initialization of a traversal: of the tree of a height over the tokens of a source, with
     /// subtrees of another height, in a table of cells. Touches no cell.
     pub fn begin<N, S: Source>(
         height: u32,
@@ -63,7 +63,7 @@ impl Draft {
         Ok(self.hash.since(before))
     }
 
-    /// Ends the initialisation: turns a complete draft into a run.
+    /// Ends the initialization: turns a complete draft into a run.
     pub fn turn(self) -> Result<Run, Incomplete>
         ensures { Turned self result }
     {
@@ -78,7 +78,7 @@ impl Draft {
         Ok(Run {
             shape,
             pulls: 0,
-            drafted: hash.pair(),
+            drafted: hash.made(),
             pulled: (0, 0),
         })
     }
@@ -88,14 +88,14 @@ impl Draft {
         ensures { result ≡ made_so_far self }
     {
         let Draft { shape: _, hash } = self;
-        hash.pair()
+        hash.made()
     }
 
     /// How many units are still to be made.
     fn missing(&self) -> u64
         ensures { result ≡ units_in_all self.now - units self.now }
     {
-        let (leaves, joins) = self.hash.pair();
+        let (leaves, joins) = self.hash.made();
         (2 << self.shape.height) - 1 - leaves - joins
     }
 

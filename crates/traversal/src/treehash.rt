@@ -16,7 +16,7 @@ pub struct Treehash {
 
 impl Treehash {
     /// The leaves and the joins made so far.
-    pub(crate) fn pair(&self) -> (u64, u64)
+    pub(crate) fn made(&self) -> (u64, u64)
         ensures { result ≡ (self.now.leaves, self.now.joins) }
     {
         (u64::from(self.leaves), u64::from(self.joins))
