@@ -24,7 +24,7 @@ const CELLS: usize = 225;
 /// The bytes of a seed, and of a digest.
 const DIGEST: usize = 32;
 
-/// The bytes of a seed or a token, and a number.
+/// The bytes that a token is made of, a seed and a number.
 const NUMBERED: usize = 36;
 
 /// The bytes of two nodes.

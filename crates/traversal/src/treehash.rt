@@ -4,7 +4,7 @@ ghost use Rattle.growth.specs.Order.{join_due};
 /// How far a treehash has come: a tree that is made leaf by leaf, two nodes of equal height on top of the
 /// stack being joined at once.
 #[derive(Clone, Copy, Debug, Default, PartialEq, Eq)]
-pub struct Treehash {
+pub(crate) struct Treehash {
     pub(crate) leaves: u32,
     pub(crate) joins: u32,
     /// The height of the newest node; 0 before the first.
