@@ -8,7 +8,7 @@ use crate::growing::Growing;
 use crate::lent::Lent;
 use crate::outcome::Incomplete;
 use crate::plot::{Plot, section_cells};
-use crate::refusal::{Refusal, has_room};
+use crate::refusal::{Refusal, check_room};
 use crate::state::{Draft, Run};
 use crate::treehash::Treehash;
 use tree::geometry::Shape;
@@ -27,7 +27,7 @@ impl Draft {
         ensures { Begun height subtree (length table.now) (S.supply source.now) result }
     {
         let shape = Shape::new(height, subtree)?;
-        has_room(table.len(), shape)?;
+        check_room(table.len(), shape)?;
         let tokens = source.size();
         if tokens < 1 << height {
             return Err(Refusal::Source(tokens));
@@ -48,7 +48,7 @@ impl Draft {
         ensures stepped { Stepped self.old (world_of M.meaning M.meter S.supply lent.old) budget result self.new (world_of M.meaning M.meter S.supply lent.new) }
         ensures same_loans { SameLoans lent.old lent.new }
     {
-        has_room(lent.table.len(), self.shape)?;
+        check_room(lent.table.len(), self.shape)?;
         let units = budget.min(self.missing());
         if units == 0 {
             return Ok((0, 0));

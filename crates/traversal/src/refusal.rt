@@ -55,9 +55,9 @@ impl Refusal {
     }
 }
 
-/// Refuses a table of so many cells that is too short for a shape. It takes their number: of a table that is lent
-/// on from behind a `&mut` the check would not know that it is the same afterwards.
-pub(crate) fn has_room(cells: usize, shape: Shape) -> Result<(), Refusal>
+/// Refuses a table of so many cells if they are too few for a shape. It takes their number and not the table: of
+/// one that is lent on from behind a `&mut` the check would not know that it stays the same.
+pub(crate) fn check_room(cells: usize, shape: Shape) -> Result<(), Refusal>
     ensures { HasRoom shape.cells cells result }
 {
     if cells < shape.cells {
