@@ -12,19 +12,22 @@ use tree::digest::Digest;
 use tree::sealed::Sealed;
 use tree::seed::SeedSource;
 
-/// The tree, and the cells of the table of its traversal.
+/// The height of the tree.
 const HEIGHT: u32 = 16;
 
+/// The height of the subtrees of its traversal.
 const SUBTREE: u32 = 4;
 
+/// The cells of the table of its traversal.
 const CELLS: usize = 225;
 
-/// The bytes of a seed and of a digest.
+/// The bytes of a seed, and of a digest.
 const DIGEST: usize = 32;
 
-/// The bytes that a token is made of, a seed and a number, and those of two nodes.
+/// The bytes that a token is made of, a seed and a number.
 const NUMBERED: usize = 36;
 
+/// The bytes of two nodes.
 const PAIR: usize = 64;
 
 /// Drafts the tree over the tokens of a seed and writes its root to the front of `out`, if there is room.
@@ -57,7 +60,8 @@ fn draft_root(seed: [u8; 32]) -> Digest
 }
 
 /// Makes as many digests as such a draft, and of messages as long, and writes the last one to the front of
-/// `out`, if there is room.
+/// `out`, if there is room. This call and `draft_bench_root` are two, since they promise different things: of
+/// the digest here nothing is said.
 #[unsafe(no_mangle)]
 pub extern "C" fn draft_bench_digests(seed: &[u8], out: &mut [u8]) -> bool
     ensures short { length out.old < 32 → result ≡ false }
@@ -92,7 +96,8 @@ fn message<const N: usize>(front: [u8; 32]) -> [u8; N]
     row
 }
 
-/// Writes a digest to the front of `out`, if there is room: a `bool`, as the calls for C answer.
+/// Writes a digest to the front of `out`, if there is room: a `bool`, as the exported calls here answer.
+/// `hash_bench` has the same, in another archive.
 fn write_front(digest: [u8; 32], out: &mut [u8]) -> bool
     ensures short { length out.old < 32 → (result ≡ false) × (out.new ≡ out.old) }
     ensures written { 32 ≤ length out.old → (result ≡ true) × (out.new ≡ digest ++ drop 32 out.old) }

@@ -5,6 +5,7 @@
 ghost use Rattle.std.specs.Prelude.{◌<◌, ◌≤◌, drop, length, false, true, ◌++◌, ◌≡◌};
 ghost use Rattle.hashing.specs.Sha256.{sha256};
 
+/// The bytes of a digest.
 const DIGEST: usize = 32;
 
 /// Writes the hash of `message` to the front of `out`, if there is room: a `bool`, since C has no `Result`.

@@ -52,7 +52,7 @@ fn finish<M: Maker, S: Source>(
 }
 
 /// What the next unit of a draft lacks: a step is refused for it.
-fn lack<M: Maker, S: Source>(draft: Draft, lent: &mut Lent<M, S>) -> Refusal
+fn lack<M: Maker, S: Source>(mut draft: Draft, lent: &mut Lent<M, S>) -> Refusal
     requires room { draft.shape.cells ≤ length lent.old.table.now }
     requires unfinished { units draft < units_in_all draft }
     requires lacks { (r : Refused) × (unit_lacks draft (S.supply lent.old.source.now) ≡ Some r) }
@@ -60,7 +60,6 @@ fn lack<M: Maker, S: Source>(draft: Draft, lent: &mut Lent<M, S>) -> Refusal
     ensures keeps { world_of M.meaning M.meter S.supply lent.new ≡ world_of M.meaning M.meter S.supply lent.old }
     ensures same_loans { SameLoans lent.old lent.new }
 {
-    let mut draft = draft;
     let answer = draft.step(lent, 1);
     let _ = draft.abandon();
     match answer {

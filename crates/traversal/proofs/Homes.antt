@@ -1,5 +1,5 @@
 -- The cell of a home is the place of the node that lies there.
-use Rattle.std.proofs.Common.{◌≡◌, ℕ, ◌+◌, ◌-◌, ◌^◌, ◌<◌, ◌≤◌, true, cond, sym, ◌∙◌, ap₂, arith}
+use Rattle.std.proofs.Common.{◌≡◌, ℕ, ◌+◌, ◌-◌, ◌/◌, ◌^◌, ◌<◌, ◌≤◌, true, cond, sym, ◌∙◌, ap₂, arith}
 use Rattle.std.proofs.lemmas.Bool.{cond-true, cond-false}
 use Rattle.growth.specs.Order.{newest, join_due}
 use Rattle.growth.specs.Places.{place, stacked_below, Room}
@@ -11,7 +11,7 @@ use Rattle.traversal.specs.declared.treehash.Treehash.{Treehash}
 use Rattle.traversal.specs.Plots.{owns_cell, layout, depth, Legal, Lies, cell_of, on_stack}
 use Rattle.traversal.specs.Units.{Standing}
 use Rattle.traversal.proofs.Plotting.{sound}
-use Rattle.traversal.proofs.Advancing.{join_index, stacked_join, below_left}
+use Rattle.traversal.proofs.Advancing.{join_index, stacked_join, below_left, below_parent, right_inside, parent_inside}
 
 pub adds : (plot : Plot) (t x : ℕ) (home : Home) → Lies plot t x home → on_stack home ≡ cond (owns_cell plot t x) 0 1
 adds plot t x Root lies = sym (cond-true {A = ℕ} (owns_cell plot t x) 0 1 lies.0)
@@ -45,3 +45,19 @@ module _ (plot : Plot) (g : Treehash) (standing : Standing plot g) (due : join_d
   left_home stacked home lies below =
       let (pos, odd, high) = join_index plot g standing due in
       without plot g.newest (last - 1) stacked home lies (below ∙ below_left plot g.newest last odd high)
+
+  -- how many nodes are below each of them: without the right one, without both, and thus below their parent
+  pub stacked_without : (right left : Home) (one two : ℕ) → Lies plot g.newest last right → Lies plot g.newest (last - 1) left → one ≡ g.stacked - on_stack right → two ≡ one - on_stack left →
+      (one ≡ stacked_below (layout plot) (plot.top - g.newest) g.newest last) × (two ≡ stacked_below (layout plot) (plot.top - g.newest) g.newest (last - 1)) × (two ≡ stacked_below (layout plot) (plot.top - (g.newest + 1)) (g.newest + 1) (last / 2))
+  stacked_without right left one two lies_right lies_left takes_right takes_left =
+      let (pos, odd, high) = join_index plot g standing due in
+      let below_right = takes_right ∙ (right_home right lies_right).1 in
+      let below = takes_left ∙ (left_home one left lies_left below_right).1 in
+      (below_right, below, below ∙ below_parent plot g.newest last odd high)
+
+  -- they and their parent are nodes of the tree
+  pub inside : (g.newest + 1 ≤ plot.top) × (last < 2 ^ (plot.top - g.newest)) × (last - 1 < 2 ^ (plot.top - g.newest)) × (last / 2 < 2 ^ (plot.top - (g.newest + 1)))
+  inside =
+      let (pos, odd, high) = join_index plot g standing due in
+      let right = right_inside plot g standing pos in
+      (high, right, omega arith, parent_inside plot g standing pos odd)

@@ -35,6 +35,11 @@ begin_checks H h cells size =
     (legal_height H, Height H) ∷ (legal_subtree H h, Subtree h)
     ∷ (nat_le (table_size H h) cells, Table (table_size H h)) ∷ (nat_le (2 ^ H) size, Source size) ∷ []
 
+-- A table of so many cells is long enough for a shape, or too short.
+abbrev pub HasRoom : ℕ → ℕ → Result Unit Refusal → Type 0
+HasRoom needed cells (Ok _) = needed ≤ cells
+HasRoom needed cells (Err r) = (cells < needed) × (r ≡ Table needed)
+
 -- A new draft has made nothing.
 abbrev pub Begun : ℕ → ℕ → ℕ → Supply → Result Draft Refusal → Type 0
 Begun H h cells s (Ok d) =

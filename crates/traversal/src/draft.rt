@@ -8,7 +8,7 @@ use crate::growing::Growing;
 use crate::lent::Lent;
 use crate::outcome::Incomplete;
 use crate::plot::{Plot, section_cells};
-use crate::refusal::Refusal;
+use crate::refusal::{Refusal, check_room};
 use crate::state::{Draft, Run};
 use crate::treehash::Treehash;
 use tree::geometry::Shape;
@@ -16,7 +16,7 @@ use tree::maker::Maker;
 use tree::source::Source;
 
 impl Draft {
-    /// Begins the initialisation of a traversal: of the tree of a height over the tokens of a source, with
+    /// Begins the initialization of a traversal: of the tree of a height over the tokens of a source, with
     /// subtrees of another height, in a table of cells. Touches no cell.
     pub fn begin<N, S: Source>(
         height: u32,
@@ -27,9 +27,7 @@ impl Draft {
         ensures { Begun height subtree (length table.now) (S.supply source.now) result }
     {
         let shape = Shape::new(height, subtree)?;
-        if table.len() < shape.cells {
-            return Err(Refusal::Table(shape.cells));
-        }
+        check_room(table.len(), shape)?;
         let tokens = source.size();
         if tokens < 1 << height {
             return Err(Refusal::Source(tokens));
@@ -50,9 +48,7 @@ impl Draft {
         ensures stepped { Stepped self.old (world_of M.meaning M.meter S.supply lent.old) budget result self.new (world_of M.meaning M.meter S.supply lent.new) }
         ensures same_loans { SameLoans lent.old lent.new }
     {
-        if lent.table.len() < self.shape.cells {
-            return Err(Refusal::Table(self.shape.cells));
-        }
+        check_room(lent.table.len(), self.shape)?;
         let units = budget.min(self.missing());
         if units == 0 {
             return Ok((0, 0));
@@ -63,7 +59,7 @@ impl Draft {
         Ok(self.hash.since(before))
     }
 
-    /// Ends the initialisation: turns a complete draft into a run.
+    /// Ends the initialization: turns a complete draft into a run.
     pub fn turn(self) -> Result<Run, Incomplete>
         ensures { Turned self result }
     {
@@ -78,7 +74,7 @@ impl Draft {
         Ok(Run {
             shape,
             pulls: 0,
-            drafted: hash.pair(),
+            drafted: hash.made(),
             pulled: (0, 0),
         })
     }
@@ -88,14 +84,14 @@ impl Draft {
         ensures { result ≡ made_so_far self }
     {
         let Draft { shape: _, hash } = self;
-        hash.pair()
+        hash.made()
     }
 
     /// How many units are still to be made.
     fn missing(&self) -> u64
         ensures { result ≡ units_in_all self.now - units self.now }
     {
-        let (leaves, joins) = self.hash.pair();
+        let (leaves, joins) = self.hash.made();
         (2 << self.shape.height) - 1 - leaves - joins
     }
 

@@ -6,7 +6,8 @@ use crate::plot::{Home, Plot, row_offset, section_cells};
 use crate::treehash::Treehash;
 
 /// A tree that grows in a table: where its nodes lie, and how far its treehash has come. That the table has
-/// room is asked by each call: a type that holds the lent table beside this fact is not covered by the check.
+/// room is asked by each call. A struct that holds the lent table beside this fact was tried: the check lends
+/// nothing from behind a `&mut` in a struct with a ghost field.
 #[derive(Clone, Copy)]
 pub(crate) struct Growing {
     pub(crate) plot: Plot,

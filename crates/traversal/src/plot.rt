@@ -10,8 +10,9 @@ use crate::tail::{push_on, top_of};
 pub(crate) struct Plot {
     /// Below this height no node has a cell of its own.
     pub(crate) lowest: u32,
-    /// The height of the tree, and that of the subtrees.
+    /// The height of the tree.
     pub(crate) top: u32,
+    /// The height of the subtrees.
     pub(crate) subtree: u32,
     /// Where the subtree of level 1 would start; those of higher levels follow.
     pub(crate) rows: usize,
@@ -22,10 +23,11 @@ pub(crate) struct Plot {
 /// Where a node lies.
 #[derive(Clone, Copy)]
 pub(crate) enum Home {
+    /// In the first cell.
     Root,
-    // In the section of a subtree.
+    /// In the section of a subtree: where it starts, and how far from there.
     Subtree { start: usize, offset: usize },
-    // On top of the stack, which starts there.
+    /// On top of the stack, which starts there.
     Stack { tail: usize },
 }
 
@@ -81,7 +83,7 @@ fn get<N: Copy>(section: &[N], offset: usize) -> N
     section[offset]
 }
 
-/// The cells of a subtree.
+/// The cells of a subtree. In `tree` the number is worked out for a shape, and a plot has none.
 pub(crate) fn section_cells(subtree: u32) -> usize
     requires { subtree ≤ 10 }
     ensures { result ≡ subtree_cells subtree }

@@ -1,4 +1,5 @@
 ghost use Rattle.std.specs.Prelude.{◌≡◌, Some};
+ghost use Rattle.traversal.specs.Calls.{HasRoom};
 ghost use Rattle.traversal.specs.Refusals.{numbered, layer_text, refusal_text, from_tree, draft_lack};
 ghost use Rattle.traversal.specs.declared.refusal.Refusal.TheVariants.{Token};
 
@@ -6,6 +7,7 @@ use crate::fault::DraftFault;
 use std::error::Error;
 use std::fmt;
 use tree::fault::Cause;
+use tree::geometry::Shape;
 use tree::refusal;
 
 /// Which call lacked a token.
@@ -51,6 +53,17 @@ impl Refusal {
             Refusal::Token(_) => 6,
         }
     }
+}
+
+/// Refuses a table of so many cells if they are too few for a shape. It takes their number and not the table: of
+/// one that is lent on from behind a `&mut` the check would not know that it stays the same.
+pub(crate) fn check_room(cells: usize, shape: Shape) -> Result<(), Refusal>
+    ensures { HasRoom shape.cells cells result }
+{
+    if cells < shape.cells {
+        return Err(Refusal::Table(shape.cells));
+    }
+    Ok(())
 }
 
 impl fmt::Display for Layer {

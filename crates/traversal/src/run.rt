@@ -2,7 +2,7 @@ ghost use Rattle.std.specs.Prelude.{◌≡◌};
 ghost use Rattle.traversal.specs.Calls.{Rooted, totals};
 
 use crate::outcome::Totals;
-use crate::refusal::Refusal;
+use crate::refusal::{Refusal, check_room};
 use crate::state::Run;
 
 impl Run {
@@ -10,9 +10,7 @@ impl Run {
     pub fn root<N: Copy>(&self, table: &[N]) -> Result<N, Refusal>
         ensures { Rooted self.now table.now result }
     {
-        if table.len() < self.shape.cells {
-            return Err(Refusal::Table(self.shape.cells));
-        }
+        check_room(table.len(), self.shape)?;
         Ok(table[0])
     }
 

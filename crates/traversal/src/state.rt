@@ -4,7 +4,7 @@ ghost use Rattle.traversal.specs.Units.{Standing};
 use crate::treehash::Treehash;
 use tree::geometry::Shape;
 
-/// The initialisation of a fractal traversal: a treehash over all leaves, which keeps the root and the first
+/// The initialization of a fractal traversal: a treehash over all leaves, which keeps the root and the first
 /// subtree of each level. It is plain numbers; the nodes lie in the caller's table. It is turned into a run
 /// when it is complete, or abandoned.
 pub struct Draft {
@@ -13,11 +13,12 @@ pub struct Draft {
     ghost standing: { Standing (draft_plot shape.height shape.subtree) hash },
 }
 
-/// An initialised fractal traversal: how far it has come, in plain numbers. It is closed at the end.
+/// An initialized fractal traversal: how far it has come, in plain numbers. It is closed at the end.
 pub struct Run {
     pub(crate) shape: Shape,
     pub(crate) pulls: u64,
-    /// The leaves and the joins that the draft made, and those that the pulls made.
+    /// The leaves and the joins that the draft made.
     pub(crate) drafted: (u64, u64),
+    /// The leaves and the joins that the pulls made.
     pub(crate) pulled: (u64, u64),
 }

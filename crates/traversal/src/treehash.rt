@@ -4,7 +4,7 @@ ghost use Rattle.growth.specs.Order.{join_due};
 /// How far a treehash has come: a tree that is made leaf by leaf, two nodes of equal height on top of the
 /// stack being joined at once.
 #[derive(Clone, Copy, Debug, Default, PartialEq, Eq)]
-pub struct Treehash {
+pub(crate) struct Treehash {
     pub(crate) leaves: u32,
     pub(crate) joins: u32,
     /// The height of the newest node; 0 before the first.
@@ -16,7 +16,7 @@ pub struct Treehash {
 
 impl Treehash {
     /// The leaves and the joins made so far.
-    pub(crate) fn pair(&self) -> (u64, u64)
+    pub(crate) fn made(&self) -> (u64, u64)
         ensures { result ≡ (self.now.leaves, self.now.joins) }
     {
         (u64::from(self.leaves), u64::from(self.joins))

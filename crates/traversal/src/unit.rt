@@ -12,6 +12,8 @@ use crate::treehash::Treehash;
 use tree::maker::Maker;
 use tree::source::Source;
 
+// Each call says that it leaves the plot, which it could change: the plot is a field, so that `Legal` and
+// `Standing` need not be asked by each.
 impl Growing {
     /// One unit: a join if one is due, and otherwise the leaf of the next token.
     pub(crate) fn unit<M: Maker, S: Source>(
