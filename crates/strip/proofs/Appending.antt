@@ -8,9 +8,6 @@ use Rattle.tree.specs.Meaning.{Meaning, Puts}
 use Rattle.tree.specs.Path.{path_bytes}
 use Rattle.strip.specs.Calls.{Appends}
 
-pub appends_none : (before : List ℕ) (at : ℕ) → Appends before at [] before at
-appends_none before at = record { end_is = sym (add-zero at); front = sym (append-nil (take at before)); back = refl }
-
 pub appends_then : {a b c : List ℕ} {at mid end : ℕ} {xs ys : List ℕ} → Appends a at xs b mid → Appends b mid ys c end → Appends a at (xs ++ ys) c end
 appends_then {a} {b} {c} {at} {mid} {end} {xs} {ys} one two =
     let more = two.end_is in
@@ -24,9 +21,6 @@ appends_then {a} {b} {c} {at} {mid} {end} {xs} {ys} one two =
 -- all that was put from the front on
 pub appends_all : {before bytes later : List ℕ} {end : ℕ} → Appends before 0 bytes later end → later ≡ bytes ++ drop end before
 appends_all {before} {bytes} {later} {end} all = sym (take-append-drop end later) ∙ ap₂ ◌++◌ all.front all.back
-
-pub appends_front : {before bytes later : List ℕ} {end : ℕ} → Appends before 0 bytes later end → take end later ≡ bytes
-appends_front all = all.front
 
 -- a part that is overwritten whole
 pub appends_part : (before part bytes : List ℕ) (at k end : ℕ) → end ≡ at + k → at + k ≤ length before → part ≡ bytes → length bytes ≡ k → Appends before at bytes (put_mid at (end - at) before part) end

@@ -15,11 +15,6 @@ module _ {N : Type 0} (m : Meaning N) (path : List ℕ) (H : ℕ) (before : List
     pub left : length (nodes_of m (H - i) rest) ≡ H - i
     pub kept : drop i cells ≡ drop i before
 
-  pub filled_none : length (nodes_of m H path) ≡ H → Filled 0 path before
-  filled_none all =
-      let whole = ap (λ k. nodes_of m k path) (sub-zero H) in
-      record { nodes = whole; left = ap length whole ∙ all ∙ sym (sub-zero H); kept = refl }
-
   module _ {i : ℕ} {rest : List ℕ} {cells : List N} (so_far : Filled i rest cells) where
     pub not_none : i < H → None ≡ front_node m rest → ⊥
     not_none lt e = let stop = ap length (nodes_stop m H i rest lt e) in let left = so_far.left in omega arith

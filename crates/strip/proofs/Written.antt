@@ -11,7 +11,7 @@ use Rattle.strip.specs.Format.{strip_bytes, height_in, number_in, token_in, firs
 use Rattle.strip.specs.Calls.{strip_length, Holds, write_checks, write_refusal, Refuses, Appends, Writes}
 use Rattle.tree.specs.Refusals.{first_refusal}
 use Rattle.strip.specs.declared.refusal.Refusal.{Refusal}
-use Rattle.strip.proofs.Appending.{appends_then, appends_all, appends_front}
+use Rattle.strip.proofs.Appending.{appends_then, appends_all}
 use Rattle.strip.proofs.Rules.{fault_is}
 use Rattle.strip.proofs.Faultless.{no_fault, nodes_faultless}
 
@@ -155,6 +155,6 @@ written m ok H n siblings secret before later long end room all =
     let last = all.end_is in
     let at : end ≡ long = let needed = room.1 in omega arith in
     let now-is = appends_all all ∙ ap (λ k. strip_bytes m H n (take 32 secret) (take H siblings) ++ drop k before) at in
-    let front = sym (ap (λ k. take k later) (sym at) ∙ appends_front all) in
+    let front = sym (ap (λ k. take k later) (sym at) ∙ all.front) in
     let whole = holds m ok H n (take 32 secret) (take H siblings) token cells all_fits.legal all_fits.below in
     (room.0, room.1, now-is, subst (λ bs. Holds m bs H n (take 32 secret) (take H siblings)) front whole)
