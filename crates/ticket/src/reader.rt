@@ -143,10 +143,7 @@ fn kind_line(kind: Kind) -> &'static [u8]
 fn decimal(byte: u8) -> Option<u32>
     ensures { result ≡ decimal_value byte }
 {
-    match byte {
-        b'0'..=b'9' => Some(u32::from(byte - b'0')),
-        _ => None,
-    }
+    char::from(byte).to_digit(10)
 }
 
 /// The value of a digit with which a number begins.
