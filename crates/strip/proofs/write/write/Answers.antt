@@ -1,4 +1,4 @@
-use Rattle.std.proofs.Common.{ℕ, ◌*◌, length, take, sym, ap, ◌∙◌, arith, rules}
+use Rattle.std.proofs.Common.{ℕ, ◌*◌, take, sym, ap, ◌∙◌, arith, rules}
 use Rattle.strip.proofs.Written.{fits, strip_row, written}
 use Rattle.strip.proofs.write.write.Goals as goal
 
