@@ -1,6 +1,5 @@
 -- Cells filled with the nodes of a path, one after another.
-use Rattle.std.proofs.Common.{◌≡◌, ℕ, ◌+◌, ◌-◌, ◌*◌, ◌/◌, ◌<◌, ◌≤◌, List, [], ◌∷◌, ◌++◌, length, take, drop, set, Some, None, sym, refl, ap, ◌∙◌, subst, ⊎_elim, add-mul, one-mul, arith, length-append}
-use native.Mathlib.Nat.{sub-zero}
+use Rattle.std.proofs.Common.{◌≡◌, ℕ, ◌+◌, ◌-◌, ◌*◌, ◌/◌, ◌<◌, ◌≤◌, List, [], ◌∷◌, ◌++◌, length, take, drop, set, Some, None, sym, ap, ◌∙◌, subst, ⊎_elim, add-mul, one-mul, arith, length-append}
 use Rattle.std.proofs.lemmas.List.{append_assoc, append-nil, drop-drop, drop-set-lt, take-append-drop, take_more_set}
 use Rattle.std.proofs.lemmas.Bool.{cases_lt}
 use Rattle.tree.specs.Meaning.{Meaning}
@@ -14,11 +13,6 @@ module _ {N : Type 0} (m : Meaning N) (path : List ℕ) (H : ℕ) (before : List
     pub nodes : take i cells ++ nodes_of m (H - i) rest ≡ nodes_of m H path
     pub left : length (nodes_of m (H - i) rest) ≡ H - i
     pub kept : drop i cells ≡ drop i before
-
-  pub filled_none : length (nodes_of m H path) ≡ H → Filled 0 path before
-  filled_none all =
-      let whole = ap (λ k. nodes_of m k path) (sub-zero H) in
-      record { nodes = whole; left = ap length whole ∙ all ∙ sym (sub-zero H); kept = refl }
 
   module _ {i : ℕ} {rest : List ℕ} {cells : List N} (so_far : Filled i rest cells) where
     pub not_none : i < H → None ≡ front_node m rest → ⊥

@@ -6,3 +6,4 @@ pub mod Written
 pub mod Spelling
 pub mod Leading
 pub mod Appending
+pub mod Returning

@@ -73,7 +73,7 @@ fn path(bytes: &[u8], height: u32) -> Result<&[u8], Fault>
     }
 }
 
-/// Looks that the path is `height` nodes and nothing more.
+/// Checks that the path is `height` nodes and nothing more.
 fn only_nodes<M: Maker>(maker: &M, bytes: &[u8], height: u32) -> Result<(), Fault>
     requires { 41 ≤ length bytes.now }
     ensures { NodesRead (M.meaning maker.now) bytes.now height result }

@@ -64,7 +64,8 @@ fn room<M: Maker>(
     Ok(needed)
 }
 
-/// Puts pieces into `out` one after another; the next goes to `place`.
+/// Puts pieces into `out` one after another; the next goes to `place`. The library's writers answer an error
+/// for want of room, which is ruled out here.
 #[derive(Drop)]
 struct Writer<'a> {
     out: &'a mut [u8],

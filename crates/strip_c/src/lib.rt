@@ -16,12 +16,14 @@ use tree::height::is_height;
 use tree::kind::Kind;
 use tree::sealed::Sealed;
 
-/// What a check answers. The C interface fixes these numbers and the 0 of the two lengths.
+/// What a check answers if the strip leads to the root. The C interface fixes this number.
 const YES: u32 = 0;
 
+/// What a check answers if it does not. The C interface fixes this number.
 const NO: u32 = 100;
 
-/// How many cells the table of a traversal has; 0 for heights that no tree or no subtree has.
+/// How many cells the table of a traversal has. The C interface fixes the 0 for heights that no tree or no
+/// subtree has.
 #[unsafe(no_mangle)]
 pub extern "C" fn strips_table_size(height: u32, subtree: u32) -> u64
     ensures { result ≡ size_or_0 height subtree }
@@ -29,7 +31,7 @@ pub extern "C" fn strips_table_size(height: u32, subtree: u32) -> u64
     size(height, subtree).map_or(0, |cells| cells as u64)
 }
 
-/// How many bytes a strip has; 0 for a kind or a height that no strip has.
+/// How many bytes a strip has. The C interface fixes the 0 for a kind or a height that no strip has.
 #[unsafe(no_mangle)]
 pub extern "C" fn strips_strip_length(kind: u32, height: u32) -> u64
     ensures { result ≡ length_or_0 kind height }
@@ -44,7 +46,7 @@ pub extern "C" fn strips_strip_length(kind: u32, height: u32) -> u64
     }
 }
 
-/// The kind that a number from C names, if it names one.
+/// The kind that a number from C stands for, or none.
 fn kind_of(number: u32) -> Option<Kind>
     ensures named { IfSome result (λ kind. kind_byte kind ≡ number) }
     ensures none { IsNone result → (kind : Kind) → kind_byte kind ≢ number }

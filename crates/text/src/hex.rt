@@ -47,8 +47,7 @@ pub enum NoBytes {
 impl From<AllocFailed<u8>> for NoBytes {
     ghost from_gives = { λ _ r. r ≡ NoMemory };
 
-    fn from(refused: AllocFailed<u8>) -> NoBytes {
-        let _ = refused;
+    fn from(_refused: AllocFailed<u8>) -> NoBytes {
         NoBytes::NoMemory
     }
 }

@@ -1,3 +1,5 @@
+//! What the programs print and read: answers, damage and hex digits.
+
 #![tactic(auto)]
 
 pub mod answer;

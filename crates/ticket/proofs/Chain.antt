@@ -202,42 +202,42 @@ pub seed_here : (xs : List ℕ) (left : ℕ) → Fails GoodSeed hex_text xs left
 seed_here xs left = wrong_here GoodSeed hex_text (λ seed. ended) xs left (λ a g. (codes "\n", some_end))
 
 -- A ticket that was read up to a piece, with so many bytes left where what follows goes wrong.
-module _ (text : List ℕ) (left : ℕ) where
+module _ {text : List ℕ} (left : ℕ) where
   pub past_none : WrongLeft tickets text left → WrongLeft IsTicket text left
   past_none wrong = (wrong.0, wrong.1, wrong_ticket text wrong.0 wrong.2)
 
-  module _ (a : List ℕ) (maker : text ≡ codes "maker " ++ a) where
+  module _ {a : List ℕ} (maker : text ≡ codes "maker " ++ a) where
     pub past_maker : WrongLeft kinds a left → WrongLeft IsTicket text left
     past_maker wrong = past_none (literal_later (codes "maker ") kinds text a left maker wrong)
 
-    module _ (k : Kind) (b : List ℕ) (kind : a ≡ kind_line k ++ b) where
+    module _ (k : Kind) {b : List ℕ} (kind : a ≡ kind_line k ++ b) where
       pub past_kind : WrongLeft (after (codes "height ") heights) b left → WrongLeft IsTicket text left
       past_kind wrong = past_maker (wrong_later (λ _. Unit {0}) kind_line (λ k. after (codes "height ") heights) a left kinds_apart k tt b kind wrong)
 
-      module _ (c : List ℕ) (tall : b ≡ codes "height " ++ c) where
+      module _ {c : List ℕ} (tall : b ≡ codes "height " ++ c) where
         pub past_tall : WrongLeft heights c left → WrongLeft IsTicket text left
         past_tall wrong = past_kind (literal_later (codes "height ") heights b c left tall wrong)
 
-        module _ (H : ℕ) (d : List ℕ) (height : GoodNumber H × (c ≡ number_line H ++ d)) where
+        module _ {H : ℕ} {d : List ℕ} (height : GoodNumber H × (c ≡ number_line H ++ d)) where
           pub past_height : WrongLeft (after (codes "subtree ") subtrees) d left → WrongLeft IsTicket text left
           past_height wrong = past_tall (wrong_later GoodNumber number_line (λ H. after (codes "subtree ") subtrees) c left numbers_apart H height.0 d height.1 wrong)
 
-          module _ (e : List ℕ) (small : d ≡ codes "subtree " ++ e) where
+          module _ {e : List ℕ} (small : d ≡ codes "subtree " ++ e) where
             pub past_small : WrongLeft subtrees e left → WrongLeft IsTicket text left
             past_small wrong = past_height (literal_later (codes "subtree ") subtrees d e left small wrong)
 
-            module _ (h : ℕ) (f : List ℕ) (subtree : GoodNumber h × (e ≡ number_line h ++ f)) where
+            module _ {h : ℕ} {f : List ℕ} (subtree : GoodNumber h × (e ≡ number_line h ++ f)) where
               pub past_subtree : WrongLeft (after (codes "seed ") seeds) f left → WrongLeft IsTicket text left
               past_subtree wrong = past_small (wrong_later GoodNumber number_line (λ h. after (codes "seed ") seeds) e left numbers_apart h subtree.0 f subtree.1 wrong)
 
-              module _ (g : List ℕ) (secret : f ≡ codes "seed " ++ g) where
+              module _ {g : List ℕ} (secret : f ≡ codes "seed " ++ g) where
                 pub past_secret : WrongLeft seeds g left → WrongLeft IsTicket text left
                 past_secret wrong = past_subtree (literal_later (codes "seed ") seeds f g left secret wrong)
 
-                module _ (s i : List ℕ) (seed : GoodSeed s × (g ≡ hex_text s ++ i)) where
+                module _ (s : List ℕ) {i : List ℕ} (seed : GoodSeed s × (g ≡ hex_text s ++ i)) where
                   pub past_seed : WrongLeft ended i left → WrongLeft IsTicket text left
                   past_seed wrong = past_secret (wrong_later GoodSeed hex_text (λ seed. ended) g left seeds_apart s seed.0 i seed.1 wrong)
 
-                  module _ (j : List ℕ) (last : i ≡ codes "\n" ++ j) where
+                  module _ {j : List ℕ} (last : i ≡ codes "\n" ++ j) where
                     pub past_last : WrongLeft (λ xs. xs ≡ []) j left → WrongLeft IsTicket text left
                     past_last wrong = past_seed (literal_later (codes "\n") (λ xs. xs ≡ []) i j left last wrong)

@@ -1,13 +1,13 @@
 ghost use Rattle.std.specs.Prelude.{◌≡◌, Some};
 ghost use Rattle.ticket.specs.Reading.{numbered, refusal_text};
 
-// A ticket asks for a kind of maker as a strip does, so the kinds are the tree's.
 use std::error::Error;
 use std::fmt;
+// A ticket asks for a kind of maker as a strip does, so the kinds are the tree's.
 pub use tree::kind::Kind;
 
 /// What a ticket asks for, but for its seed. The heights are not judged yet.
-#[derive(Clone, Copy, Debug, PartialEq)]
+#[derive(Clone, Copy, Debug, PartialEq, Eq)]
 pub struct Job {
     pub kind: Kind,
     pub height: u32,
@@ -15,14 +15,14 @@ pub struct Job {
 }
 
 /// A place in a text: the line counts from 1, the column from 0.
-#[derive(Clone, Copy, Debug, PartialEq)]
+#[derive(Clone, Copy, Debug, PartialEq, Eq)]
 pub struct Spot {
     pub line: usize,
     pub column: usize,
 }
 
 /// Why a ticket is not read.
-#[derive(Clone, Copy, Debug, PartialEq)]
+#[derive(Clone, Copy, Debug, PartialEq, Eq)]
 pub enum Refusal {
     /// The scratch is too short; it should have had so many bytes.
     Short(usize),

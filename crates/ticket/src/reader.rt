@@ -8,7 +8,8 @@ use strip::hex::digit;
 /// How many bytes a seed has.
 pub(crate) const SEED_LENGTH: usize = 32;
 
-/// Reads a text from the front. A piece that is not there is refused; nothing is read after that.
+/// Reads a text from the front, piece by piece. A word that is refused is left unread; of a number or a seed
+/// that is refused, the front may have been read.
 #[derive(Drop)]
 pub(crate) struct Reader<'a> {
     left: &'a [u8],
@@ -128,7 +129,7 @@ fn named(first: u8) -> Option<Kind>
     }
 }
 
-/// The name of a maker and the line's end; as bytes, since a kind prints itself only where there is memory.
+/// The name of a maker and the line's end, as bytes, so that `literal` reads them as one word.
 fn kind_line(kind: Kind) -> &'static [u8]
     ensures { result.now ≡ kind_line kind }
 {
@@ -142,10 +143,7 @@ fn kind_line(kind: Kind) -> &'static [u8]
 fn decimal(byte: u8) -> Option<u32>
     ensures { result ≡ decimal_value byte }
 {
-    match byte {
-        b'0'..=b'9' => Some(u32::from(byte - b'0')),
-        _ => None,
-    }
+    char::from(byte).to_digit(10)
 }
 
 /// The value of a digit with which a number begins.

@@ -27,11 +27,10 @@ pub fn read(text: &[u8], scratch: &mut [u8], source: &mut SeedSource) -> Result<
     let Some(seed) = scratch.first_chunk_mut() else {
         return Err(Refusal::Short(SEED_LENGTH));
     };
-    // not map_err: a proof cannot cite what its closure gives, and the match needs none
-    match unpack(text, seed, source) {
-        Ok(job) => Ok(job),
-        Err(wrong) => Err(Refusal::NoTicket(spot(&text[..text.len() - wrong.left]))),
-    }
+    unpack(text, seed, source).map_err(|wrong| {
+        let before = &text[..text.len() - wrong.left];
+        Refusal::NoTicket(spot(before))
+    })
 }
 
 /// Reads a ticket through an array, which is wiped on every way out; or finds where it goes wrong.

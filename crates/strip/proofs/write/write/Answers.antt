@@ -1,31 +1,27 @@
-use Rattle.std.proofs.Common.{ℕ, ◌*◌, length, take, sym, ap, ◌∙◌, arith, rules}
-use Rattle.std.proofs.lemmas.List.{length-take-le}
+use Rattle.std.proofs.Common.{ℕ, ◌*◌, take, sym, ap, ◌∙◌, arith, rules}
 use Rattle.strip.proofs.Written.{fits, strip_row, written}
 use Rattle.strip.proofs.write.write.Goals as goal
 
 pub slice_bounds-token-end : goal.slice_bounds-token-end
 slice_bounds-token-end g c =
-    let room = fits (g.M.Maker.meaning c.args.maker.now) c.args.height c.args.number (length c.args.path.now) (length c.args.token.now) (length c.args.out.now) c.in_ok-needed.ensures.0 in
+    let room = fits (g.M.Maker.meaning c.args.maker.now) c.args.height c.args.number c.args.path.now c.args.token.now c.args.out.now c.in_ok-needed.ensures.0 in
     search rules
 
 pub put-requires-4 : goal.put-requires-4
 put-requires-4 g c =
-    let room = fits (g.M.Maker.meaning c.args.maker.now) c.args.height c.args.number (length c.args.path.now) (length c.args.token.now) (length c.args.out.now) c.in_ok-needed.ensures.0 in
-    let token = length-take-le 32 c.args.token.now room.token in
+    let room = fits (g.M.Maker.meaning c.args.maker.now) c.args.height c.args.number c.args.path.now c.args.token.now c.args.out.now c.in_ok-needed.ensures.0 in
     omega arith
 
 pub put-requires-5 : goal.put-requires-5
 put-requires-5 g c =
-    let room = fits (g.M.Maker.meaning c.args.maker.now) c.args.height c.args.number (length c.args.path.now) (length c.args.token.now) (length c.args.out.now) c.in_ok-needed.ensures.0 in
-    let token = length-take-le 32 c.args.token.now room.token in
+    let room = fits (g.M.Maker.meaning c.args.maker.now) c.args.height c.args.number c.args.path.now c.args.token.now c.args.out.now c.in_ok-needed.ensures.0 in
     omega arith
 
 pub put_path-requires : goal.put_path-requires
 put_path-requires g c =
     let m = g.M.Maker.meaning c.args.maker.now in
-    let room = fits (g.M.Maker.meaning c.args.maker.now) c.args.height c.args.number (length c.args.path.now) (length c.args.token.now) (length c.args.out.now) c.in_ok-needed.ensures.0 in
-    let token = length-take-le 32 c.args.token.now room.token in
-    let cells = ap (λ k. k * m.width) (length-take-le c.args.height c.args.path.now room.path) in
+    let room = fits m c.args.height c.args.number c.args.path.now c.args.token.now c.args.out.now c.in_ok-needed.ensures.0 in
+    let cells = ap (λ k. k * m.width) room.path_taken in
     omega arith
 
 pub returns : goal.returns

@@ -1,7 +1,7 @@
 use Rattle.std.proofs.Common.{ℕ, ◌+◌, ◌*◌, [], ◌∷◌, length, drop, Some, None, vec_items, sym, refl, ap, ◌∙◌, arith}
 use Rattle.std.proofs.lemmas.Bool.{eqb-false, eqb-true}
-use Rattle.std.proofs.lemmas.Result.{err_from_is_err_and}
 use Rattle.std.proofs.lemmas.Slice.{pushed}
+use Rattle.strip.proofs.Returning.{err_is}
 use Rattle.text.specs.declared.hex.NoBytes.TheVariants.{NotHex}
 use Rattle.text.specs.Hex.{bytes_of}
 use Rattle.text.proofs.Decoding.{after, odd_none, no_digit, pair_read, pair_more, all_read}
@@ -13,15 +13,13 @@ returns-then-not-is_empty c =
 
 pub returns-in_err-high : goal.returns-in_err-high
 returns-in_err-high c =
-    let e = err_from_is_err_and c.from_residual.result c.from_residual.ensures.1 in
     let refused = no_digit c.digit.result NotHex c.in_err-high.field-0.0 c.in_err-high.ensures.value in
-    rw (e.1, e.2, refused.1) (pair_read c.args.text.now c.as_chunks.result.0.now c.as_chunks.ensures.front c.loop-high.high-index (omega arith) (vec_items c.loop-high.bytes) None _ c.loop-high.invariant (refused.0 ∙ c.digit.ensures.value) refl)
+    rw (err_is c.from_residual.ensures.1, refused.1) (pair_read c.args.text.now c.as_chunks.result.0.now c.as_chunks.ensures.front c.loop-high.high-index (omega arith) (vec_items c.loop-high.bytes) None _ c.loop-high.invariant (refused.0 ∙ c.digit.ensures.value) refl)
 
 pub returns-in_err-low : goal.returns-in_err-low
 returns-in_err-low c =
-    let e = err_from_is_err_and c.from_residual-in_err-low.result c.from_residual-in_err-low.ensures.1 in
     let refused = no_digit c.digit-in-loop-high.result NotHex c.in_err-low.field-0.0 c.in_err-low.ensures.value in
-    rw (e.1, e.2, refused.1) (pair_read c.args.text.now c.as_chunks.result.0.now c.as_chunks.ensures.front c.loop-high.high-index (omega arith) (vec_items c.loop-high.bytes) (Some c.in_ok-high.high) None c.loop-high.invariant (sym c.in_ok-high.ensures.ok_part ∙ c.digit.ensures.value) (refused.0 ∙ c.digit-in-loop-high.ensures.value))
+    rw (err_is c.from_residual-in_err-low.ensures.1, refused.1) (pair_read c.args.text.now c.as_chunks.result.0.now c.as_chunks.ensures.front c.loop-high.high-index (omega arith) (vec_items c.loop-high.bytes) (Some c.in_ok-high.high) None c.loop-high.invariant (sym c.in_ok-high.ensures.ok_part ∙ c.digit.ensures.value) (refused.0 ∙ c.digit-in-loop-high.ensures.value))
 
 pub loop-high-preserved : goal.loop-high-preserved
 loop-high-preserved c =

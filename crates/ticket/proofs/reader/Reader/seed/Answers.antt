@@ -1,7 +1,7 @@
 use Rattle.std.proofs.Common.{ℕ, ◌+◌, ◌*◌, ◌<◌, List, [], ◌∷◌, ◌++◌, length, get_or, take, length-set, sym, ap, ◌∙◌, subst, arith, lit<}
 use Rattle.std.proofs.lemmas.List.{length-take-le, take_more_set}
-use Rattle.std.proofs.lemmas.Result.{err_from_is_err_and}
 use Rattle.strip.specs.Hex.{hex_text}
+use Rattle.strip.proofs.Returning.{err_is}
 use Rattle.ticket.specs.Pieces.{Fails, GoodSeed}
 use Rattle.ticket.proofs.Hexes.{each_append, each_next, byte_fits, fails_high, fails_low, reads_byte}
 use Rattle.ticket.proofs.reader.Reader.seed.Goals as goal
@@ -11,25 +11,23 @@ returns-in_err-high c =
     let old : List ℕ = c.args.self.now.left.now in
     let left : List ℕ = c.loop-byte.self.left.now in
     let i : ℕ = c.loop-byte.byte-index in
-    let e = err_from_is_err_and c.from_residual.result c.from_residual.ensures.1 in
     let inv = c.loop-byte.invariant in
     let read = c.in_err-high.ensures in
     let many = length-take-le i c.loop-byte.seed (omega arith) in
     let fails = fails_high old (take i c.loop-byte.seed) left i many (omega arith) inv.2 inv.1 (λ b rest e. (read.2 b rest e).0) in
-    rw (e.1, e.2) (subst (Fails GoodSeed hex_text old) (sym read.0) fails)
+    rw (err_is c.from_residual.ensures.1) (subst (Fails GoodSeed hex_text old) (sym read.0) fails)
 
 pub returns-in_err-low : goal.returns-in_err-low
 returns-in_err-low c =
     let old : List ℕ = c.args.self.now.left.now in
     let left : List ℕ = c.loop-byte.self.left.now in
     let i : ℕ = c.loop-byte.byte-index in
-    let e = err_from_is_err_and c.from_residual-in_err-low.result c.from_residual-in_err-low.ensures.1 in
     let inv = c.loop-byte.invariant in
     let high = c.in_ok-high.ensures in
     let read = c.in_err-low.ensures in
     let many = length-take-le i c.loop-byte.seed (omega arith) in
     let fails = fails_low old (take i c.loop-byte.seed) left i many (omega arith) inv.2 inv.1 high.0 c.in_ok-high.high c.next.new.self.left.now high.1 high.2.0 (λ b rest e. (read.2 b rest e).0) in
-    rw (e.1, e.2) (subst (Fails GoodSeed hex_text old) (sym read.0) fails)
+    rw (err_is c.from_residual-in_err-low.ensures.1) (subst (Fails GoodSeed hex_text old) (sym read.0) fails)
 
 pub loop-byte-preserved : goal.loop-byte-preserved
 loop-byte-preserved c =
