@@ -1,7 +1,8 @@
+//! Checks a printed proof strip against a root: reads the root and the strip in hex, a line each, and
+//! prints the verdict.
+
 #![tactic(auto)]
 
-// Checks a printed proof strip against a root: reads the root and the strip in hex, a line each, and
-// prints the verdict.
 use anyhow::anyhow;
 use std::io;
 use std::process::ExitCode;
@@ -9,7 +10,7 @@ use strip::judge::judge;
 use text::answer::answer;
 use text::hex::decode;
 
-// The message is printed here, under the program's name, and not by returning the error.
+/// The message is printed here, under the program's name, and not by returning the error.
 fn main(rt: HostRuntime) -> io::Result<ExitCode> {
     if let Err(error) = run(&rt) {
         eprintln!(rt; "checker: {error}")?;
@@ -24,11 +25,11 @@ fn run(rt: &HostRuntime) -> anyhow::Result<()> {
     for line in rt.lines(heap) {
         lines.push(line?)?;
     }
-    let [root, strip] = lines.as_slice() else {
+    let [root, strip] = &lines[..] else {
         return Err(anyhow!("two lines are wanted: the root, and then the strip"));
     };
     let root = decode(heap, root.as_bytes())?;
     let strip = decode(heap, strip.as_bytes())?;
-    rt.println(answer(heap, judge(root.as_slice(), strip.as_slice()))?)?;
+    rt.println(answer(heap, judge(&root, &strip))?)?;
     Ok(())
 }

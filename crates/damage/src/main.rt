@@ -1,74 +1,43 @@
+//! Judges every root and strip of the input as they are and after damage to the strip: each byte changed
+//! in turn, every shorter strip, and two longer ones.
+
 #![tactic(auto)]
 
-// Judges every root and strip of the input as they are and after damage to the strip: each byte changed
-// in turn, every shorter strip, and two longer ones.
 use std::alloc::{AllocError, Global};
+use std::fmt::Display;
 use strip::judge::judge;
 use text::answer::answer;
+use text::damage::{each_change, each_cut};
 use text::hex::decode;
 
-// The bits that are inverted in each byte, one at a time.
+/// The bits that are inverted in each byte, one at a time.
 const BITS: [u8; 2] = [1, 128];
 
 fn main(rt: HostRuntime) -> anyhow::Result<()> {
-    run(&rt)
-}
-
-fn run(rt: &HostRuntime) -> anyhow::Result<()> {
     let heap = rt.alloc();
-    let mut root = Vec::new(heap);
-    let mut even = true;
+    // the root whose strip comes next
+    let mut waiting = None;
     for line in rt.lines(heap) {
         let bytes = decode(heap, line?.as_bytes())?;
-        if even {
-            root = bytes;
-        } else {
-            judge_all(rt, root.as_slice(), bytes)?;
+        match waiting.take() {
+            None => waiting = Some(bytes),
+            Some(root) => judge_all(&rt, &root, bytes)?,
         }
-        even = !even;
     }
     Ok(())
 }
 
 fn judge_all(rt: &HostRuntime, root: &[u8], mut strip: Vec<u8>) -> anyhow::Result<()> {
-    tell(rt, "whole", root, strip.as_slice())?;
-    changed(rt, root, &mut strip)?;
-    let strip = strip.as_slice();
-    for size in 0..strip.len() {
-        let what = format!(in rt.alloc(); "cut to {size}")?;
-        tell(rt, what.as_str(), root, &strip[0..size])?;
-    }
-    tell(
-        rt,
-        "one more",
-        root,
-        joined(rt.alloc(), strip, &[0])?.as_slice(),
-    )?;
-    tell(
-        rt,
-        "doubled",
-        root,
-        joined(rt.alloc(), strip, strip)?.as_slice(),
-    )
-}
-
-// The strip with each byte changed in turn.
-fn changed(rt: &HostRuntime, root: &[u8], strip: &mut Vec<u8>) -> anyhow::Result<()> {
-    for i in 0..strip.len() {
-        for bit in BITS {
-            let what = format!(in rt.alloc(); "byte {i} by {bit}")?;
-            invert(strip, i, bit);
-            tell(rt, what.as_str(), root, strip.as_slice())?;
-            invert(strip, i, bit);
-        }
-    }
-    Ok(())
-}
-
-fn invert(strip: &mut Vec<u8>, i: usize, bit: u8) {
-    if let Some(byte) = strip.get_mut(i) {
-        *byte ^= bit;
-    }
+    tell(rt, "whole", root, &strip)?;
+    each_change(&mut strip, &BITS, |damage, strip| {
+        tell(rt, damage, root, strip)
+    })?;
+    let strip = &strip[..];
+    each_cut(strip, |damage, strip| tell(rt, damage, root, strip))?;
+    let one_more = joined(rt.alloc(), strip, &[0])?;
+    tell(rt, "one more", root, &one_more)?;
+    let doubled = joined(rt.alloc(), strip, strip)?;
+    tell(rt, "doubled", root, &doubled)
 }
 
 fn joined(heap: Global, one: &[u8], other: &[u8]) -> Result<Vec<u8>, AllocError> {
@@ -77,7 +46,12 @@ fn joined(heap: Global, one: &[u8], other: &[u8]) -> Result<Vec<u8>, AllocError>
     Ok(both)
 }
 
-fn tell(rt: &HostRuntime, what: &str, root: &[u8], strip: &[u8]) -> anyhow::Result<()> {
+fn tell<D: Display + Copy>(
+    rt: &HostRuntime,
+    what: D,
+    root: &[u8],
+    strip: &[u8],
+) -> anyhow::Result<()> {
     let words = answer(rt.alloc(), judge(root, strip))?;
     println!(rt; "{what}: {words}")?;
     Ok(())

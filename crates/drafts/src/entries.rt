@@ -1,21 +1,20 @@
 use std::alloc::Global;
 
-// How many bytes a token has.
-const TOKEN: u8 = 32;
+/// How many bytes a token has.
+const TOKEN: usize = 32;
 
-// The mark of a token that is present, and one that is not.
+/// The mark of a token that is present.
 const PRESENT: u8 = 1;
 
+/// A mark of a token that is torn.
 const TORN: u8 = 2;
 
-// Entries of a list source, in which all bytes of a token are its number. One of the tokens may be torn.
+/// Entries of a list source, in which all bytes of a token are its number. One of the tokens may be torn.
 pub(crate) fn entries(heap: Global, count: u8, torn: Option<u8>) -> anyhow::Result<Vec<u8>> {
     let mut bytes = Vec::new(heap);
     for number in 0..count {
         bytes.push(if torn == Some(number) { TORN } else { PRESENT })?;
-        for _ in 0..TOKEN {
-            bytes.push(number)?;
-        }
+        bytes.extend_from_slice(&[number; TOKEN])?;
     }
     Ok(bytes)
 }

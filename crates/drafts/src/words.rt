@@ -1,153 +1,91 @@
-use crate::draft::Ending;
-use std::alloc::Global;
-use std::error::Error;
 use std::fmt;
 use traversal::outcome::Totals;
-use traversal::refusal::{Layer, Refusal};
-use tree::fault::Cause;
-use tree::maker::Maker;
+use traversal::refusal::Refusal;
 
-// A refusal, to be shown by its number and its values.
-#[derive(Drop)]
-pub struct Refused(pub Refusal);
+/// A number of leaves and one of joins, as a call answers them, to be shown.
+#[derive(Clone, Copy, Default)]
+pub struct Made {
+    pub leaves: u64,
+    pub joins: u64,
+}
 
-impl fmt::Debug for Refused {
+impl From<(u64, u64)> for Made {
+    fn from((leaves, joins): (u64, u64)) -> Made {
+        Made { leaves, joins }
+    }
+}
+
+impl fmt::Display for Made {
     fn fmt<W: fmt::Write>(&self, f: &mut fmt::Formatter<W>) -> fmt::Result {
-        write!(f, "{self}")
+        write!(f, "{} {}", self.leaves, self.joins)
     }
 }
 
-impl Error for Refused {}
-
-impl From<Refusal> for Refused {
-    fn from(refusal: Refusal) -> Refused {
-        Refused(refusal)
-    }
-}
-
-impl fmt::Display for Refused {
-    fn fmt<W: fmt::Write>(&self, f: &mut fmt::Formatter<W>) -> fmt::Result {
-        let number = self.0.number();
-        match self.0 {
-            Refusal::Height(height) => write!(f, "refused {number} {height}"),
-            Refusal::Subtree(subtree) => write!(f, "refused {number} {subtree}"),
-            Refusal::Table(cells) => write!(f, "refused {number} {cells}"),
-            Refusal::Source(tokens) => write!(f, "refused {number} {tokens}"),
-            Refusal::Token(lack) => {
-                let token = lack.number;
-                let cause = cause_word(lack.cause);
-                let layer = layer_word(lack.layer);
-                write!(f, "refused {number} {token} {cause} {layer}")
-            }
-        }
-    }
-}
-
-fn cause_word(cause: Cause) -> &'static str {
-    match cause {
-        Cause::Torn => "torn",
-        Cause::Beyond => "beyond",
-    }
-}
-
-fn layer_word(layer: Layer) -> &'static str {
-    match layer {
-        Layer::Draft => "draft",
-    }
-}
-
-// A number of leaves and one of joins, to be shown.
-#[derive(Drop)]
-pub struct Pair(pub (u64, u64));
-
-impl fmt::Display for Pair {
-    fn fmt<W: fmt::Write>(&self, f: &mut fmt::Formatter<W>) -> fmt::Result {
-        let (leaves, joins) = self.0;
-        write!(f, "{leaves} {joins}")
-    }
-}
-
-// The answer of a step, to be shown.
-#[derive(Drop)]
+/// The answer of a step, to be shown; `Result` has no `Display`.
+#[derive(Clone, Copy)]
 pub struct Answer(pub Result<(u64, u64), Refusal>);
 
 impl fmt::Display for Answer {
     fn fmt<W: fmt::Write>(&self, f: &mut fmt::Formatter<W>) -> fmt::Result {
         match self.0 {
-            Ok(pair) => {
-                let made = Pair(pair);
-                write!(f, "made {made}")
+            Ok(made) => write!(f, "made {}", Made::from(made)),
+            Err(refusal) => write!(f, "{refusal}"),
+        }
+    }
+}
+
+/// What became of a draft: the run that it was turned into, closed, with the root in hex or the refusal of the
+/// root; or the refusal of the turn.
+#[derive(Drop)]
+pub enum Ending {
+    Closed {
+        root: String,
+        totals: Totals,
+    },
+    Rootless(Refusal),
+    Abandoned {
+        number: u8,
+        missing: u64,
+        made: Made,
+    },
+}
+
+impl fmt::Display for Ending {
+    fn fmt<W: fmt::Write>(&self, f: &mut fmt::Formatter<W>) -> fmt::Result {
+        match self {
+            Ending::Closed { root, totals } => {
+                let drafted = Made::from(totals.drafted);
+                let pulled = Made::from(totals.pulled);
+                write!(f, "root {root}, closed {} {drafted} {pulled}", totals.pulls)
             }
-            Err(refusal) => {
-                let refused = Refused(refusal);
-                write!(f, "{refused}")
-            }
+            Ending::Rootless(refusal) => write!(f, "no root, {refusal}"),
+            Ending::Abandoned {
+                number,
+                missing,
+                made,
+            } => write!(f, "turn refused {number} {missing}, abandoned {made}"),
         }
     }
 }
 
-// The bytes of a node in lower-case hex.
-pub(crate) fn hex<M: Maker>(heap: Global, maker: &M, node: M::Node) -> anyhow::Result<String> {
-    let mut bytes = vec![in heap; 0; maker.width()]?;
-    // the bytes have the width of a node, so this is never refused
-    let _ = maker.put(node, bytes.as_mut_slice());
-    let mut text = String::new(heap);
-    for byte in bytes.as_slice() {
-        let pair = format!(in heap; "{byte:02x}")?;
-        text.push_str(pair.as_str())?;
-    }
-    Ok(text)
+/// The steps of a draft that made something, and the leaves and the joins that they answered.
+#[derive(Clone, Copy, Default)]
+pub struct Tally {
+    pub steps: u64,
+    pub made: Made,
 }
 
-// The cells of a table, with a blank before each.
-pub(crate) fn cell_words<M: Maker>(
-    heap: Global,
-    maker: &M,
-    table: &[M::Node],
-) -> anyhow::Result<String> {
-    let mut text = String::new(heap);
-    for node in table {
-        text.push_str(" ")?;
-        text.push_str(hex(heap, maker, *node)?.as_str())?;
+impl Tally {
+    /// Counts a step more.
+    pub(crate) fn add(&mut self, leaves: u64, joins: u64) {
+        self.steps = self.steps.saturating_add(1);
+        self.made.leaves = self.made.leaves.saturating_add(leaves);
+        self.made.joins = self.made.joins.saturating_add(joins);
     }
-    Ok(text)
 }
 
-// What became of a draft.
-pub(crate) fn ending_words<M: Maker>(
-    heap: Global,
-    maker: &M,
-    ending: Ending<M::Node>,
-) -> anyhow::Result<String> {
-    match ending {
-        Ending::Closed {
-            root: Ok(root),
-            totals,
-        } => {
-            let root = hex(heap, maker, root)?;
-            let Totals {
-                pulls,
-                drafted,
-                pulled,
-            } = totals;
-            let drafted = Pair(drafted);
-            let pulled = Pair(pulled);
-            Ok(format!(in heap; "root {root}, closed {pulls} {drafted} {pulled}")?)
-        }
-        Ending::Closed {
-            root: Err(refusal),
-            totals: _,
-        } => {
-            let refused = Refused(refusal);
-            Ok(format!(in heap; "no root, {refused}")?)
-        }
-        Ending::Abandoned {
-            number,
-            missing,
-            made,
-        } => {
-            let made = Pair(made);
-            Ok(format!(in heap; "turn refused {number} {missing}, abandoned {made}")?)
-        }
+impl fmt::Display for Tally {
+    fn fmt<W: fmt::Write>(&self, f: &mut fmt::Formatter<W>) -> fmt::Result {
+        write!(f, "{} steps made {}", self.steps, self.made)
     }
 }

@@ -1,5 +1,6 @@
+//! How a complete binary tree grows node by node in the cells of a table. The definitions are in specs/ and the
+//! laws in proofs/; the traversal is proved over them. The code is the stack of nodes.
+
 #![tactic(auto)]
 
-// How a complete binary tree grows node by node in the cells of a table. The definitions are in specs/ and the
-// laws in proofs/; the traversal is proved over them. The code is the stack of nodes.
 pub mod stack;

@@ -1,5 +1,6 @@
+pub mod Arrays
 mod Blocks
-pub mod Bytes
+pub mod Chunks
 mod Digits
 mod Ending
 pub mod Lengths

@@ -1,5 +1,5 @@
 -- FIPS 180-4, section 4.2.2: the 64 constants, the first 32 bits of the fractional parts of the cube roots of the first 64 primes.
-use Rattle.std.specs.Prelude.{ℕ, List, [], ◌∷◌, slice_index}
+use Rattle.std.specs.Prelude.{◌≡◌, ℕ, ◌+◌, ◌<◌, List, [], ◌∷◌, slice_index}
 
 abbrev pub constants : List ℕ
 constants =
@@ -15,3 +15,7 @@ constants =
 -- K_t
 abbrev pub K : ℕ → ℕ
 K t = slice_index constants t
+
+-- ks holds the sixteen constants from K_t on
+abbrev pub HasConstants : ℕ → List ℕ → Type 0
+HasConstants t ks = (j : ℕ) → j < 16 → slice_index ks j ≡ K (t + j)

@@ -3,10 +3,14 @@ use Rattle.std.specs.Prelude.{◌≡◌, ℕ, ◌+◌, ◌*◌, ◌%◌, ◌<◌
 use Rattle.hashing.specs.declared.state.State.{State}
 use Rattle.hashing.specs.Sha256.{W, rounds}
 
--- t rounds on the block M from the hash value H have led to s, and w holds the sixteen words of the schedule from W_t on
+-- w holds the sixteen words of the schedule of the block M from W_t on
+abbrev pub HasWords : List ℕ → ℕ → List ℕ → Type 0
+HasWords M t w = (j : ℕ) → j < 16 → slice_index w j ≡ W M (t + j)
+
+-- t rounds on the block M from the hash value H have led to s, and w holds the words from W_t on
 pub record Stage (M : List ℕ) (H : State) (t : ℕ) (s : State) (w : List ℕ) : Type 0 where
   pub variables : s ≡ rounds M t H
-  pub words : (j : ℕ) → j < 16 → slice_index w j ≡ W M (t + j)
+  pub words : HasWords M t w
 
 -- FIPS 180-4, 5.1.1: after 8 * n bits of message and the bit 1, the seven bits 0 of the byte 0x80 and those of z bytes are
 -- the least number of bits 0 that leaves 64 bits of a block of 512

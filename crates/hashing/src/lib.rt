@@ -16,7 +16,6 @@ mod words;
 pub fn digest(message: &[u8]) -> [u8; 32]
     ensures { result ≡ sha256 message.now }
 {
-    let whole = message.len() - message.len() % BLOCK;
-    let hash = INITIAL.absorb(&message[0..whole]);
-    absorb_end(hash, &message[whole..], message.len()).to_bytes()
+    let (blocks, rest) = message.as_chunks::<BLOCK>();
+    absorb_end(INITIAL.absorb(blocks), rest, message.len()).into()
 }

@@ -1,6 +1,6 @@
 //! The end of a message: what is left of it after its whole blocks, and the padding.
 
-ghost use Rattle.std.specs.Prelude.{◌≡◌, ◌%◌, ◌≤◌, ◌++◌, length, take, replicate};
+ghost use Rattle.std.specs.Prelude.{◌≡◌, ◌%◌, ◌++◌, length};
 ghost use Rattle.hashing.specs.Sha256.{hashed_all, padding, zeros};
 ghost use Rattle.hashing.specs.Stages.{LeastZeros};
 
@@ -23,20 +23,6 @@ fn zero_bytes(total: usize) -> usize
     (END - LENGTH - 1 - total % BLOCK) % BLOCK
 }
 
-/// Writes `rest`, what is left of a message of `total` bytes, and the padding into zeros; gives their number.
-fn write_end(end: &mut [u8], rest: &[u8], total: usize) -> usize
-    requires { (end.old ≡ replicate 128 0) × (length rest.now ≡ total % 64) }
-    ensures within { result ≤ 128 }
-    ensures bytes { take result end.new ≡ rest.now ++ padding total }
-{
-    let mark = rest.len();
-    let size = mark + 1 + zero_bytes(total);
-    end[0..mark].copy_from_slice(rest);
-    end[mark] = MARK;
-    end[size..size + LENGTH].copy_from_slice(&total.wrapping_mul(8).to_be_bytes());
-    size + LENGTH
-}
-
 /// The hash value after the end of a message of `total` bytes, of which `rest` is left.
 pub fn absorb_end(hash: State, rest: &[u8], total: usize) -> State
     requires { length rest.now ≡ total % 64 }
@@ -47,6 +33,10 @@ pub fn absorb_end(hash: State, rest: &[u8], total: usize) -> State
         return hash.absorb_padding();
     }
     let mut end = [0; END];
-    let size = write_end(&mut end, rest, total);
-    hash.absorb(&end[0..size])
+    let size = rest.len() + 1 + zero_bytes(total) + LENGTH;
+    end[..rest.len()].copy_from_slice(rest);
+    end[rest.len()] = MARK;
+    end[size - LENGTH..size].copy_from_slice(&total.wrapping_mul(8).to_be_bytes());
+    let (blocks, _) = end[..size].as_chunks::<BLOCK>();
+    hash.absorb(blocks)
 }

@@ -1,133 +1,78 @@
+//! Drafts the tree that the job ticket of the input asks for, and prints its root and the number of nodes
+//! that the draft made; or why there is none.
+
 #![tactic(auto)]
 
-// Drafts the tree that the job ticket of the input asks for, and prints its root and the number of nodes
-// that the draft made; or why there is none.
 use session::root::root;
-use std::fmt;
+use std::alloc::{AllocError, Global};
 use std::io::Read;
+use text::hex::node_hex;
+use thiserror::Error;
 use ticket::job;
-use ticket::job::{Job, Kind, Spot};
+use ticket::job::Job;
 use ticket::ticket::read;
+use traversal::lent::Lent;
 use traversal::refusal;
 use tree::digest::Digest;
 use tree::dummy::Dummy;
+use tree::kind::Kind;
 use tree::maker::Maker;
 use tree::sealed::Sealed;
 use tree::seed::SeedSource;
 use tree::span::Span;
 
-// How many cells the table has.
+/// How many cells the table has.
 const CELLS: usize = 2000;
 
-// A refusal by its number, and where a ticket goes wrong if that is the reason.
-#[derive(Drop)]
-struct Refusal {
-    number: u8,
-    spot: Option<Spot>,
-}
-
-impl From<job::Refusal> for Refusal {
-    fn from(refusal: job::Refusal) -> Refusal {
-        let spot = match refusal {
-            job::Refusal::Short(_) => None,
-            job::Refusal::NoTicket(spot) => Some(spot),
-        };
-        Refusal {
-            number: refusal.number(),
-            spot,
-        }
-    }
-}
-
-impl From<refusal::Refusal> for Refusal {
-    fn from(refusal: refusal::Refusal) -> Refusal {
-        Refusal {
-            number: refusal.number(),
-            spot: None,
-        }
-    }
-}
-
-impl fmt::Display for Refusal {
-    fn fmt<W: fmt::Write>(&self, f: &mut fmt::Formatter<W>) -> fmt::Result {
-        let number = self.number;
-        match self.spot {
-            Some(Spot { line, column }) => write!(f, "refused {number} {line} {column}"),
-            None => write!(f, "refused {number}"),
-        }
-    }
-}
-
-// Bytes, to be shown in lower-case hex.
-#[derive(Drop)]
-struct Hex<'a>(&'a [u8]);
-
-impl fmt::Display for Hex<'_> {
-    fn fmt<W: fmt::Write>(&self, f: &mut fmt::Formatter<W>) -> fmt::Result {
-        for byte in self.0 {
-            write!(f, "{byte:02x}")?;
-        }
-        Ok(())
-    }
+/// Why a ticket gets no root.
+#[derive(Debug, Drop, Error)]
+enum Failure {
+    #[error(transparent)]
+    Ticket(#[from] job::Refusal),
+    /// printed by its number alone
+    #[error("refused {}", .0.number())]
+    Traversal(#[from] refusal::Refusal),
+    #[error(transparent)]
+    Memory(#[from] AllocError),
 }
 
 fn main(rt: HostRuntime) -> anyhow::Result<()> {
-    run(&rt)
-}
-
-fn run(rt: &HostRuntime) -> anyhow::Result<()> {
     let mut text = Vec::new(rt.alloc());
     rt.stdin().read_to_end(&mut text)?;
-    let mut scratch = [0; 32];
+    match list(rt.alloc(), &text) {
+        Ok(line) => println!(rt; "{line}")?,
+        Err(Failure::Memory(failure)) => return Err(failure.into()),
+        Err(refusal) => println!(rt; "{refusal}")?,
+    }
+    Ok(())
+}
+
+/// The line on the tree that a ticket asks for.
+fn list(heap: Global, text: &[u8]) -> Result<String, Failure> {
     let mut source = SeedSource::new([0; 32]);
-    match read(text.as_slice(), &mut scratch, &mut source) {
-        Ok(job) => list_by_kind(rt, job, &mut source),
-        Err(refusal) => tell_refusal(rt, refusal.into()),
-    }
-}
-
-fn list_by_kind(rt: &HostRuntime, job: Job, source: &mut SeedSource) -> anyhow::Result<()> {
+    let job = read(text, &mut [0; 32], &mut source)?;
     match job.kind {
-        Kind::Sealed => {
-            let mut table = vec![in rt.alloc(); Digest { bytes: [0; 32] }; CELLS]?;
-            list(rt, job, table.as_mut_slice(), &mut Sealed::new(), source)
-        }
-        Kind::Dummy => {
-            let mut table = vec![in rt.alloc(); Span::Broken; CELLS]?;
-            list(rt, job, table.as_mut_slice(), &mut Dummy::new(), source)
-        }
+        Kind::Sealed => draft(heap, job, source, Sealed::new(), Digest { bytes: [0; 32] }),
+        Kind::Dummy => draft(heap, job, source, Dummy::new(), Span::Broken),
     }
 }
 
-// Drafts the tree of a job and prints its root and how many nodes were made.
-fn list<M: Maker>(
-    rt: &HostRuntime,
+/// Drafts the tree of a job, in a table that is full of one node before: its root, and how many nodes were made.
+fn draft<M: Maker + Drop>(
+    heap: Global,
     job: Job,
-    table: &mut [M::Node],
-    maker: &mut M,
-    source: &mut SeedSource,
-) -> anyhow::Result<()> {
-    match root(job.height, job.subtree, table, maker, source) {
-        Ok((root, (leaves, joins))) => tell_root(rt, maker, root, leaves.saturating_add(joins)),
-        Err(refusal) => tell_refusal(rt, refusal.into()),
-    }
-}
-
-fn tell_root<M: Maker>(
-    rt: &HostRuntime,
-    maker: &M,
-    root: M::Node,
-    units: u64,
-) -> anyhow::Result<()> {
-    let mut bytes = vec![in rt.alloc(); 0; maker.width()]?;
-    // the bytes have the width of a node, so this is never refused
-    let _ = maker.put(root, bytes.as_mut_slice());
-    let hex = Hex(bytes.as_slice());
-    println!(rt; "root {hex} {units}")?;
-    Ok(())
-}
-
-fn tell_refusal(rt: &HostRuntime, refusal: Refusal) -> anyhow::Result<()> {
-    println!(rt; "{refusal}")?;
-    Ok(())
+    mut source: SeedSource,
+    mut maker: M,
+    filler: M::Node,
+) -> Result<String, Failure> {
+    let mut table = vec![in heap; filler; CELLS]?;
+    let mut lent = Lent {
+        table: &mut table,
+        maker: &mut maker,
+        source: &mut source,
+    };
+    let (root, (leaves, joins)) = root(job.height, job.subtree, &mut lent)?;
+    let root = node_hex(heap, &maker, root)?;
+    let units = leaves.saturating_add(joins);
+    Ok(format!(in heap; "root {root} {units}")?)
 }

@@ -1,7 +1,7 @@
 -- The law over all lists of calls: what is kept from call to call, and what it comes to.
-use Rattle.std.proofs.Common.{◌≡◌, ℕ, ◌+◌, ◌-◌, ◌*◌, ◌/◌, ◌%◌, ◌^◌, ◌<◌, ◌≤◌, min, true, cond, ◌&&◌, ltb, leb, ◌⊎◌, List, [], ◌∷◌, length, get_or, Some, None, Ok, Err, Decides, Result, sym, refl, ap, ◌∙◌, subst, ap₂, inl, inr, ⊎_elim, add-zero, add_assoc, add-mul, zero-add, arith, pow_mono}
+use Rattle.std.proofs.Common.{◌≡◌, ℕ, ◌+◌, ◌-◌, ◌*◌, ◌/◌, ◌%◌, ◌^◌, ◌<◌, ◌≤◌, min, true, cond, ◌&&◌, ltb, ◌⊎◌, List, ◌∷◌, length, get_or, Some, None, Ok, Err, Result, sym, refl, ap, ◌∙◌, subst, ap₂, inl, inr, ⊎_elim, add-zero, add_assoc, add-mul, zero-add, arith, pow_mono}
 use Rattle.std.proofs.lemmas.Nat.{div-mul-add, mod-mul-add, mul-le}
-use Rattle.std.proofs.lemmas.Bool.{cases_lt, cases_Bool, cond-true, cond-false, leb-true, ltb-true, le-ltb, and_parts, false≢true}
+use Rattle.std.proofs.lemmas.Bool.{cases_lt, cases_Bool, cond-true, cond-false, ltb-true, le-ltb, and_parts, false≢true}
 use Rattle.growth.specs.Order.{Reached, join_due}
 use Rattle.growth.specs.Places.{carried, place}
 use Rattle.growth.specs.Values.{Grew}
@@ -13,28 +13,27 @@ use Rattle.tree.specs.Meaning.{Meaning, Wraps, after}
 use Rattle.tree.specs.Numbers.{legal_height}
 use Rattle.tree.specs.Supply.{Supply}
 use Rattle.tree.specs.Tree.{node_at}
-use Rattle.tree.specs.Geometry.{levels, table_size, subtree_cells, existing_start, legal_subtree}
+use Rattle.tree.specs.Geometry.{Shaped, levels, table_size, subtree_cells, existing_start, legal_subtree}
 use Rattle.tree.proofs.Metering.{after_after, after_none}
 use Rattle.traversal.specs.declared.state.Draft.{Draft}
 use Rattle.traversal.specs.declared.state.Run.{Run}
 use Rattle.traversal.specs.declared.outcome.Incomplete.{Incomplete}
 use Rattle.traversal.specs.declared.refusal.Refusal.{Refusal}
-use Rattle.traversal.specs.declared.refusal.Refusal.TheVariants.{Height, Subtree, Table, Source}
 use Rattle.traversal.specs.declared.treehash.Treehash.{Treehash}
 use Rattle.traversal.specs.Plots.{row_start, layout, depth, owns_cell, own_cell}
-use Rattle.traversal.specs.Shapes.{Shaped, draft_plot}
+use Rattle.traversal.specs.Shapes.{draft_plot}
 use Rattle.traversal.specs.Worlds.{World, tokens, leaf_at}
 use Rattle.traversal.specs.Calls.{units, units_in_all, Begun, unit_lacks, lacking, Stepped, Turned, WentOn, step_refusal}
 use Rattle.traversal.proofs.Plotting.{sound, owns_decides, cell_root, cell_row}
 use Rattle.traversal.proofs.Drafting.{draft_legal, draft_room, rows_start, whole_levels}
 use Rattle.traversal.proofs.Stepping.{most}
-use Rattle.traversal.proofs.Beginning.{passed}
+use Rattle.traversal.proofs.Beginning.{begin_passed}
 use Rattle.session.specs.declared.held.Held.{Held}
 use Rattle.session.specs.declared.held.Held.TheVariants.{Drafting, Running}
 use Rattle.session.specs.declared.held.Call.{Call}
 use Rattle.session.specs.declared.held.Call.TheVariants.{Step}
-use Rattle.session.specs.History.{History, stop, and_step, and_turn, turned, accepted}
-use Rattle.session.specs.Law.{reported, leaves_made, joins_made, budgets, Unrefused, TurnsAt, nodes, AllPresent, HoldsTree, HeldTree, HoldsCount, Lawful, LawfulFrom}
+use Rattle.session.specs.History.{History, stop, and_step, and_turn, turned, turn_answer}
+use Rattle.session.specs.Law.{reported, leaves_made, joins_made, budgets, Unrefused, TurnAt, TurnsAt, nodes, AllPresent, HoldsTree, HeldTree, HoldsCount, Lawful, LawfulFrom}
 
 -- what the budgets allow, up to all
 counts : (B budget made before all : ℕ) → before ≡ min B all → before + made ≤ all → made ≤ budget → (made ≡ budget) ⊎ (before + made ≡ all) → before + made ≡ min (B + budget) all
@@ -44,15 +43,15 @@ pub none_some : {A : Type 0} (x : A) → None ≡ Some x → ⊥
 none_some x e = let z : ◌≡◌ {A = ℕ} 0 1 = cc in omega arith
 
 -- with all tokens there an unfinished draft lacks none
-lacks_none : (d : Draft) (s : Supply) → AllPresent s d.height → units d < units_in_all d → unit_lacks d s ≡ None
+lacks_none : (d : Draft) (s : Supply) → AllPresent s d.shape.height → units d < units_in_all d → unit_lacks d s ≡ None
 lacks_none d s there few =
     let l = d.hash.leaves in
     let p = d.hash.newest in
     ⊎_elim
     (λ due. cond-true (join_due l p) None _ due)
     (λ none.
-    let more = unfinished d.height l p (omega (arith, d.standing.1)) d.standing.0.1 in
-    let room = leaf_room d.height l p d.standing.0 more none in
+    let more = unfinished d.shape.height l p (omega (arith, d.standing.1)) d.standing.0.1 in
+    let room = leaf_room d.shape.height l p d.standing.0 more none in
     cond-false (join_due l p) None _ none ∙ ap (lacking l) (there l (omega arith)))
     (cases_Bool (join_due l p))
 
@@ -65,7 +64,7 @@ module _ {N : Type 0} (H h : ℕ) (v : World N) (height : legal_height H ≡ tru
 
   -- what is held after a leaves and b joins
   abbrev Phase : ℕ → ℕ → Held → List N → Type 0
-  Phase a b (Drafting d) table = (d.height ≡ H) × (d.subtree ≡ h) × (d.hash.leaves ≡ a) × (d.hash.joins ≡ b) × Carries d.hash table
+  Phase a b (Drafting d) table = (d.shape.height ≡ H) × (d.shape.subtree ≡ h) × (d.hash.leaves ≡ a) × (d.hash.joins ≡ b) × Carries d.hash table
   Phase a b (Running run) table = HoldsCount H h a b (Running run) × HoldsTree v.meaning v.supply H h table
 
   -- what every call keeps
@@ -81,7 +80,7 @@ module _ {N : Type 0} (H h : ℕ) (v : World N) (height : legal_height H ≡ tru
   shaped : Shaped H h (table_size H h)
   shaped = (height, subtree, refl)
 
-  most_nodes : (d : Draft) → d.height ≡ H → units d ≤ nodes H
+  most_nodes : (d : Draft) → d.shape.height ≡ H → units d ≤ nodes H
   most_nodes d e = omega (arith, most d, ap (λ k. 2 ^ (k + 1) - 1) e)
 
   -- a step that is not refused
@@ -89,8 +88,8 @@ module _ {N : Type 0} (H h : ℕ) (v : World N) (height : legal_height H ≡ tru
   stepped d e u w a b B budget i j kept went =
       let (tall, low, leaves, joins, carries) = kept.phase in
       let adv = went.drafted.advanced in
-      let tall-e : e.height ≡ H = went.drafted.height ∙ tall in
-      let low-e : e.subtree ≡ h = went.drafted.subtree ∙ low in
+      let tall-e : e.shape.height ≡ H = ap (λ s. s.height) went.drafted.shape ∙ tall in
+      let low-e : e.shape.subtree ≡ h = ap (λ s. s.subtree) went.drafted.shape ∙ low in
       let L = leaf_at v.meaning v.supply in
       let J = v.meaning.join in
       let lay = layout (draft_plot H h) in
@@ -125,7 +124,7 @@ module _ {N : Type 0} (H h : ℕ) (v : World N) (height : legal_height H ≡ tru
             (⊎_elim inl
             (λ o. inr (⊎_elim (λ full. omega arith)
             (λ lack. ⊎_elim
-            (λ few. absurd (none_some lack.0 (sym (lacks_none e u.supply (subst (λ s. AllPresent s e.height) (sym kept.supply) (subst (AllPresent v.supply) (sym tall-e) there)) few) ∙ lack.1)))
+            (λ few. absurd (none_some lack.0 (sym (lacks_none e u.supply (subst (λ s. AllPresent s e.shape.height) (sym kept.supply) (subst (AllPresent v.supply) (sym tall-e) there)) few) ∙ lack.1)))
             (λ full. omega (arith, most_nodes e tall-e))
             (cases_lt (units e) (units_in_all e))) o))
             went.stops.1);
@@ -136,12 +135,12 @@ module _ {N : Type 0} (H h : ℕ) (v : World N) (height : legal_height H ≡ tru
   refused d u a b B budget r kept why there =
       let (tall, low, leaves, joins, carries) = kept.phase in
       let size = ap₂ table_size tall low in
-      let long : table_size d.height d.subtree ≤ length u.table = omega (arith, kept.long) in
+      let long : table_size d.shape.height d.shape.subtree ≤ length u.table = omega (arith, kept.long) in
       let rest = cond (ltb 0 budget && ltb (units d) (units_in_all d)) (unit_lacks d u.supply) None in
-      let second : rest ≡ Some r = sym (cond-false (ltb (length u.table) (table_size d.height d.subtree)) _ _ (le-ltb _ _ long)) ∙ why in
+      let second : rest ≡ Some r = sym (cond-false (ltb (length u.table) (table_size d.shape.height d.shape.subtree)) _ _ (le-ltb _ _ long)) ∙ why in
       ⊎_elim
       (λ go. let few = (and_parts (ltb 0 budget) (ltb (units d) (units_in_all d)) go).1 in
-      none_some r (sym (lacks_none d u.supply (subst (λ s. AllPresent s d.height) (sym kept.supply) (subst (AllPresent v.supply) (sym tall) there)) (ltb-true _ _ few)) ∙ sym (cond-true (ltb 0 budget && ltb (units d) (units_in_all d)) _ _ go) ∙ second))
+      none_some r (sym (lacks_none d u.supply (subst (λ s. AllPresent s d.shape.height) (sym kept.supply) (subst (AllPresent v.supply) (sym tall) there)) (ltb-true _ _ few)) ∙ sym (cond-true (ltb 0 budget && ltb (units d) (units_in_all d)) _ _ go) ∙ second))
       (λ halt. none_some r (sym (cond-false (ltb 0 budget && ltb (units d) (units_in_all d)) _ _ halt) ∙ second))
       (cases_Bool (ltb 0 budget && ltb (units d) (units_in_all d)))
 
@@ -164,7 +163,7 @@ module _ {N : Type 0} (H h : ℕ) (v : World N) (height : legal_height H ≡ tru
       subst (λ f. Kept (a + 0) (b + 0) (B + budget) (Drafting f) w) (sym same) (subst (λ y. Kept (a + 0) (b + 0) (B + budget) (Drafting d) y) (sym still) here)
 
   -- the table of a complete draft holds the tree
-  holds : (d : Draft) (table : List N) → d.height ≡ H → units d ≡ nodes H → Carries d.hash table → HoldsTree v.meaning v.supply H h table
+  holds : (d : Draft) (table : List N) → d.shape.height ≡ H → units d ≡ nodes H → Carries d.hash table → HoldsTree v.meaning v.supply H h table
   holds d table tall all carries =
       let plot = draft_plot H h in
       let lay = layout plot in
@@ -197,14 +196,14 @@ module _ {N : Type 0} (H h : ℕ) (v : World N) (height : legal_height H ≡ tru
       }
 
   turn_kept : (d : Draft) (u : World N) (a b B : ℕ) (answer : Result Run Incomplete) → Kept a b B (Drafting d) u → Turned d answer → Kept a b B (turned answer) u
-  turn_kept d u a b B (Ok run) kept (full, same-height, same-subtree, pulls, drafted, pulled) =
+  turn_kept d u a b B (Ok run) kept (full, same, pulls, drafted, pulled) =
       let (tall, low, leaves, joins, carries) = kept.phase in
       let all : units d ≡ nodes H = full ∙ ap (λ k. 2 ^ (k + 1) - 1) tall in
       record {
         phase = (
           (
-            same-height ∙ tall,
-            same-subtree ∙ low,
+            ap (λ s. s.height) same ∙ tall,
+            ap (λ s. s.subtree) same ∙ low,
             ap (λ n. record { pulls = n; drafted = run.drafted; pulled = run.pulled }) pulls
                 ∙ ap (λ q. record { pulls = 0; drafted = q; pulled = run.pulled }) (drafted ∙ ap₂ (λ i j. (i, j)) leaves joins)
                 ∙ ap (λ q. record { pulls = 0; drafted = (a, b); pulled = q }) pulled,
@@ -221,13 +220,14 @@ module _ {N : Type 0} (H h : ℕ) (v : World N) (height : legal_height H ≡ tru
   turn_kept d u a b B (Err back) kept (few, same, missing) = subst (λ f. Kept a b B (Drafting f) u) (sym same) kept
 
   -- a turn is accepted exactly when all nodes are made
-  turn_decides : (d : Draft) (u : World N) (a b B : ℕ) (answer : Result Run Incomplete) → Kept a b B (Drafting d) u → Turned d answer → Decides (accepted answer) (a + b ≡ nodes H)
-  turn_decides d u a b B (Ok run) kept (full, _, _, _, _, _) =
+  turn_at : (d : Draft) (u : World N) (a b B : ℕ) (answer : Result Run Incomplete) → Kept a b B (Drafting d) u → Turned d answer → TurnAt (nodes H) (a + b) (turn_answer answer)
+  turn_at d u a b B (Ok run) kept (full, _, _, _, _) =
       let (tall, low, leaves, joins, carries) = kept.phase in
-      (λ _. omega (arith, full, ap (λ k. 2 ^ (k + 1) - 1) tall), λ _. refl)
-  turn_decides d u a b B (Err back) kept (few, same, missing) =
+      omega (arith, full, ap (λ k. 2 ^ (k + 1) - 1) tall)
+  turn_at d u a b B (Err back) kept (few, same, missing) =
       let (tall, low, leaves, joins, carries) = kept.phase in
-      (λ e. absurd (false≢true e), λ e. absurd (omega (arith, few, ap (λ k. 2 ^ (k + 1) - 1) tall)))
+      let all : units_in_all d ≡ nodes H = ap (λ k. 2 ^ (k + 1) - 1) tall in
+      (omega (arith, few, missing), omega (arith, few, missing))
 
   -- what a history comes to, from what was kept
   record Comes (a b B : ℕ) (calls : List Call) (z : Held) (w : World N) : Type 0 where
@@ -261,7 +261,7 @@ module _ {N : Type 0} (H h : ℕ) (v : World N) (height : legal_height H ≡ tru
       record {
         last = then.last;
         unrefused = then.unrefused;
-        turns = (turn_decides d u a b B answer kept did, then.turns);
+        turns = (turn_at d u a b B answer kept did, then.turns);
       }
 
   held_tree : (a b : ℕ) (z : Held) (table : List N) → Phase a b z table → HeldTree v.meaning v.supply H h z table
@@ -272,7 +272,7 @@ module _ {N : Type 0} (H h : ℕ) (v : World N) (height : legal_height H ≡ tru
   held_count a b (Drafting d) table (tall, low, leaves, joins, carries) = (tall, low, ap₂ (λ i j. (i, j)) leaves joins)
   held_count a b (Running run) table phase = phase.0
 
-  pub lawful : Wraps v.meter → (d : Draft) → d.height ≡ H → d.subtree ≡ h → d.hash.leaves ≡ 0 → d.hash.joins ≡ 0 → (calls : List Call) (z : Held) (w : World N) → History (Drafting d) v calls z w → Lawful H h v calls z w
+  pub lawful : Wraps v.meter → (d : Draft) → d.shape.height ≡ H → d.shape.subtree ≡ h → d.hash.leaves ≡ 0 → d.hash.joins ≡ 0 → (calls : List Call) (z : Held) (w : World N) → History (Drafting d) v calls z w → Lawful H h v calls z w
   lawful wraps d tall low leaves joins calls z w history =
       let none : d.hash.newest ≡ 0 = omega (arith, d.standing.0.2) in
       let start : Kept 0 0 0 (Drafting d) v = record {
@@ -305,8 +305,5 @@ module _ {N : Type 0} (H h : ℕ) (v : World N) (height : legal_height H ≡ tru
 pub lawful_from : {N : Type 0} (H h : ℕ) (v : World N) → Wraps v.meter → (r : Result Draft Refusal) → Begun H h (length v.table) v.supply r → LawfulFrom H h v r
 lawful_from H h v wraps (Err r) begun = tt
 lawful_from H h v wraps (Ok d) (checks, tall, low, made) =
-    let size = table_size H h in
-    let (height, one) = passed (legal_height H) (Height H) ((legal_subtree H h, Subtree h) ∷ (leb size (length v.table), Table size) ∷ (leb (2 ^ H) v.supply.size, Source v.supply.size) ∷ []) checks in
-    let (subtree, two) = passed (legal_subtree H h) (Subtree h) ((leb size (length v.table), Table size) ∷ (leb (2 ^ H) v.supply.size, Source v.supply.size) ∷ []) one in
-    let (enough, three) = passed (leb size (length v.table)) (Table size) ((leb (2 ^ H) v.supply.size, Source v.supply.size) ∷ []) two in
-    lawful H h v height subtree (leb-true _ _ enough) wraps d tall low (ap (λ (p : ℕ × ℕ). p.0) made) (ap (λ (p : ℕ × ℕ). p.1) made)
+    let (height, subtree, enough, tokens) = begin_passed H h (length v.table) v.supply.size checks in
+    lawful H h v height subtree enough wraps d tall low (ap (λ (p : ℕ × ℕ). p.0) made) (ap (λ (p : ℕ × ℕ). p.1) made)

@@ -1,23 +1,19 @@
 -- A draft that is stepped as far as it goes: it is complete, or the first missing token is in its way.
-use Rattle.std.proofs.Common.{◌≡◌, ℕ, zero, suc, ◌+◌, ◌-◌, ◌^◌, ◌<◌, ◌≤◌, cond, ◌&&◌, ltb, leb, ◌⊎◌, [], ◌∷◌, length, Some, None, Ok, Err, Option, Result, sym, refl, ap, ◌∙◌, subst, ap₂, inl, inr, ⊎_elim, arith, pow_mono}
-use Rattle.std.proofs.lemmas.Bool.{cases_lt, cases_Bool, cond-true, cond-false, le-ltb, ltb-true, leb-true, and_parts}
+use Rattle.std.proofs.Common.{◌≡◌, ℕ, zero, suc, ◌+◌, ◌-◌, ◌^◌, ◌<◌, ◌≤◌, cond, ◌&&◌, ltb, ◌⊎◌, length, Some, None, Ok, Err, Option, Result, sym, refl, ap, ◌∙◌, subst, ap₂, inl, inr, ⊎_elim, arith, pow_mono}
+use Rattle.std.proofs.lemmas.Bool.{cases_lt, cases_Bool, cond-true, cond-false, le-ltb, ltb-true, and_parts}
 use Rattle.growth.specs.Order.{join_due}
 use Rattle.growth.proofs.Ends.{twice_pow}
 use Rattle.growth.proofs.Making.{leaf_room}
 use Rattle.growth.proofs.Counting.{joined_whole, unfinished}
-use Rattle.tree.specs.Refusals.{first_refusal}
 use Rattle.tree.specs.Supply.{Supply, presence}
-use Rattle.tree.specs.declared.fault.Presence.TheVariants.{Present}
 use Rattle.tree.specs.Meaning.{Wraps, after}
-use Rattle.tree.specs.Numbers.{legal_height}
-use Rattle.tree.specs.Geometry.{table_size, legal_subtree}
+use Rattle.tree.specs.Geometry.{table_size}
 use Rattle.traversal.specs.declared.state.Draft.{Draft}
 use Rattle.traversal.specs.declared.state.Run.{Run}
 use Rattle.traversal.specs.declared.refusal.Refusal.{Refusal}
-use Rattle.traversal.specs.declared.refusal.Refusal.TheVariants.{Height, Subtree, Table, Source}
 use Rattle.traversal.specs.Worlds.{World}
-use Rattle.traversal.specs.Calls.{units, units_in_all, unit_lacks, lacking, begin_checks, Begun, Stepped, step_refusal, Turned}
-use Rattle.traversal.proofs.Beginning.{passed}
+use Rattle.traversal.specs.Calls.{units, units_in_all, unit_lacks, lacking, Begun, Stepped, step_refusal, Turned}
+use Rattle.traversal.proofs.Beginning.{begin_passed}
 use Rattle.traversal.proofs.Drafting.{height_facts}
 use Rattle.traversal.proofs.Stepping.{most}
 use Rattle.session.specs.History.{stop, and_step, and_turn}
@@ -26,14 +22,14 @@ use Rattle.session.specs.Root.{or_else, first_lack, root_refusal, Around, Drafts
 use Rattle.session.proofs.Histories.{none_some, lawful_from}
 
 -- no token is missing
-pub lack_none : (s : Supply) (n : ℕ) → ((k : ℕ) → k < n → presence s k ≡ Present) → first_lack s n ≡ None
+pub lack_none : (s : Supply) (n : ℕ) → ((k : ℕ) → k < n → presence s k ≡ Ok tt) → first_lack s n ≡ None
 unfolding first_lack
 lack_none s zero there = refl
 lack_none s (suc n) there =
     ap (λ (o : Option Refusal). or_else o (lacking n (presence s n))) (lack_none s n (λ k less. there k (omega arith))) ∙ ap (lacking n) (there n (omega arith))
 
 -- the first is
-pub lack_first : (s : Supply) (n m : ℕ) (r : Refusal) → ((k : ℕ) → k < n → presence s k ≡ Present) → lacking n (presence s n) ≡ Some r → n < m → first_lack s m ≡ Some r
+pub lack_first : (s : Supply) (n m : ℕ) (r : Refusal) → ((k : ℕ) → k < n → presence s k ≡ Ok tt) → lacking n (presence s n) ≡ Some r → n < m → first_lack s m ≡ Some r
 unfolding first_lack
 lack_first s n zero r there lacks less = absurd (omega arith)
 lack_first s n (suc m) r there lacks less =
@@ -45,22 +41,22 @@ lack_first s n (suc m) r there lacks less =
     (cases_lt n m)
 
 -- what an unfinished draft lacks is a token of its tree
-pub lacks_token : (d : Draft) (s : Supply) (r : Refusal) → units d < units_in_all d → unit_lacks d s ≡ Some r → (lacking d.hash.leaves (presence s d.hash.leaves) ≡ Some r) × (d.hash.leaves < 2 ^ d.height)
+pub lacks_token : (d : Draft) (s : Supply) (r : Refusal) → units d < units_in_all d → unit_lacks d s ≡ Some r → (lacking d.hash.leaves (presence s d.hash.leaves) ≡ Some r) × (d.hash.leaves < 2 ^ d.shape.height)
 lacks_token d s r few lacks =
     let l = d.hash.leaves in
     let p = d.hash.newest in
     ⊎_elim
     (λ due. absurd (none_some r (sym (cond-true (join_due l p) None _ due) ∙ lacks)))
     (λ none.
-    let more = unfinished d.height l p (omega (arith, d.standing.1)) d.standing.0.1 in
-    (sym (cond-false (join_due l p) None _ none) ∙ lacks, omega (arith, leaf_room d.height l p d.standing.0 more none)))
+    let more = unfinished d.shape.height l p (omega (arith, d.standing.1)) d.standing.0.1 in
+    (sym (cond-false (join_due l p) None _ none) ∙ lacks, omega (arith, leaf_room d.shape.height l p d.standing.0 more none)))
     (cases_Bool (join_due l p))
 
 -- a step that is refused though the table is long enough
-pub refused_unit : (d : Draft) (cells budget : ℕ) (s : Supply) (r : Refusal) → table_size d.height d.subtree ≤ cells → step_refusal d cells s budget ≡ Some r → (unit_lacks d s ≡ Some r) × (units d < units_in_all d)
+pub refused_unit : (d : Draft) (cells budget : ℕ) (s : Supply) (r : Refusal) → table_size d.shape.height d.shape.subtree ≤ cells → step_refusal d cells s budget ≡ Some r → (unit_lacks d s ≡ Some r) × (units d < units_in_all d)
 refused_unit d cells budget s r enough why =
     let rest = cond (ltb 0 budget && ltb (units d) (units_in_all d)) (unit_lacks d s) None in
-    let second : rest ≡ Some r = sym (cond-false (ltb cells (table_size d.height d.subtree)) _ _ (le-ltb _ _ enough)) ∙ why in
+    let second : rest ≡ Some r = sym (cond-false (ltb cells (table_size d.shape.height d.shape.subtree)) _ _ (le-ltb _ _ enough)) ∙ why in
     ⊎_elim
     (λ go. (sym (cond-true (ltb 0 budget && ltb (units d) (units_in_all d)) _ _ go) ∙ second, ltb-true _ _ (and_parts (ltb 0 budget) (ltb (units d) (units_in_all d)) go).1))
     (λ halt. absurd (none_some r (sym (cond-false (ltb 0 budget && ltb (units d) (units_in_all d)) _ _ halt) ∙ second)))
@@ -69,17 +65,17 @@ refused_unit d cells budget s r enough why =
 -- complete, with all tokens there; or the next token is missing, and those before are there
 abbrev pub EndsAt : Draft → Supply → Type 0
 EndsAt e s =
-    ((units e ≡ units_in_all e) × AllPresent s e.height)
-    ⊎ ((units e < units_in_all e) × ((r : Refusal) × (unit_lacks e s ≡ Some r)) × ((k : ℕ) → k < e.hash.leaves → presence s k ≡ Present))
+    ((units e ≡ units_in_all e) × AllPresent s e.shape.height)
+    ⊎ ((units e < units_in_all e) × ((r : Refusal) × (unit_lacks e s ≡ Some r)) × ((k : ℕ) → k < e.hash.leaves → presence s k ≡ Ok tt))
 
-pub ends : {N : Type 0} (d e : Draft) (v w : World N) (budget : ℕ) (answer : Result (ℕ × ℕ) Refusal) → d.hash.leaves ≡ 0 → d.hash.joins ≡ 0 → table_size d.height d.subtree ≤ length v.table → units_in_all d < budget → Stepped d v budget answer e w → EndsAt e v.supply
+pub ends : {N : Type 0} (d e : Draft) (v w : World N) (budget : ℕ) (answer : Result (ℕ × ℕ) Refusal) → d.hash.leaves ≡ 0 → d.hash.joins ≡ 0 → table_size d.shape.height d.shape.subtree ≤ length v.table → units_in_all d < budget → Stepped d v budget answer e w → EndsAt e v.supply
 ends d e v w budget (Ok made) none no_join enough large (fine, went) =
     let adv = went.drafted.advanced in
-    let there : (k : ℕ) → k < e.hash.leaves → presence v.supply k ≡ Present = λ k less. adv.present k (omega arith) less in
-    let same : units_in_all e ≡ units_in_all d = ap (λ k. 2 ^ (k + 1) - 1) went.drafted.height in
+    let there : (k : ℕ) → k < e.hash.leaves → presence v.supply k ≡ Ok tt = λ k less. adv.present k (omega arith) less in
+    let same : units_in_all e ≡ units_in_all d = ap (λ s. 2 ^ (s.height + 1) - 1) went.drafted.shape in
     let whole : units e ≡ units_in_all e → EndsAt e v.supply = λ full. inl (
       full,
-      (let (all, top) = joined_whole e.height e.hash.leaves e.hash.newest e.standing.0 (omega (arith, e.standing.1)) in λ n less. there n (omega arith)),
+      (let (all, top) = joined_whole e.shape.height e.hash.leaves e.hash.newest e.standing.0 (omega (arith, e.standing.1)) in λ n less. there n (omega arith)),
     ) in
     ⊎_elim
     (λ spent. absurd (omega (arith, most e, adv.leaves_made, adv.joins_made)))
@@ -91,25 +87,22 @@ ends d e v w budget (Err r) none no_join enough large (why, same, still) =
     subst (λ f. EndsAt f v.supply) (sym same) (inr (few, (r, lacks), λ k less. absurd (omega arith)))
 
 -- a step keeps the table's length and what the source supplies
-pub stepped_keeps : {N : Type 0} (d e : Draft) (v w : World N) (budget : ℕ) (answer : Result (ℕ × ℕ) Refusal) → Stepped d v budget answer e w → (length w.table ≡ length v.table) × (w.supply ≡ v.supply) × (e.height ≡ d.height) × (e.subtree ≡ d.subtree)
-stepped_keeps d e v w budget (Ok made) (fine, went) = (went.drafted.advanced.grew.long, went.drafted.advanced.supply, went.drafted.height, went.drafted.subtree)
-stepped_keeps d e v w budget (Err r) (why, same, still) = (ap (λ y. length y.table) still, ap (λ y. y.supply) still, ap (λ f. f.height) same, ap (λ f. f.subtree) same)
+pub stepped_keeps : {N : Type 0} (d e : Draft) (v w : World N) (budget : ℕ) (answer : Result (ℕ × ℕ) Refusal) → Stepped d v budget answer e w → (length w.table ≡ length v.table) × (w.supply ≡ v.supply) × (e.shape.height ≡ d.shape.height) × (e.shape.subtree ≡ d.shape.subtree)
+stepped_keeps d e v w budget (Ok made) (fine, went) = (went.drafted.advanced.grew.long, went.drafted.advanced.supply, ap (λ s. s.height) went.drafted.shape, ap (λ s. s.subtree) went.drafted.shape)
+stepped_keeps d e v w budget (Err r) (why, same, still) = (ap (λ y. length y.table) still, ap (λ y. y.supply) still, ap (λ f. f.shape.height) same, ap (λ f. f.shape.subtree) same)
 
 -- The root in one call. All from what the calls made say.
 module _ {N : Type 0} (H h : ℕ) (v : World N) (wraps : Wraps v.meter) (d : Draft) (begun : Begun H h (length v.table) v.supply (Ok d))
     (e : Draft) (w : World N) (budget : ℕ) (answer : Result (ℕ × ℕ) Refusal) (did : Stepped d v budget answer e w) (large : 2 ^ 22 ≤ budget) where
   facts : (table_size H h ≤ length v.table) × (H ≤ 20)
   facts =
-      let size = table_size H h in
-      let (height, one) = passed (legal_height H) (Height H) ((legal_subtree H h, Subtree h) ∷ (leb size (length v.table), Table size) ∷ (leb (2 ^ H) v.supply.size, Source v.supply.size) ∷ []) begun.0 in
-      let (subtree, two) = passed (legal_subtree H h) (Subtree h) ((leb size (length v.table), Table size) ∷ (leb (2 ^ H) v.supply.size, Source v.supply.size) ∷ []) one in
-      let (enough, three) = passed (leb size (length v.table)) (Table size) ((leb (2 ^ H) v.supply.size, Source v.supply.size) ∷ []) two in
-      (leb-true _ _ enough, (height_facts H height).1)
+      let (height, subtree, enough, tokens) = begin_passed H h (length v.table) v.supply.size begun.0 in
+      (enough, (height_facts H height).1)
 
-  pub tall : e.height ≡ H
+  pub tall : e.shape.height ≡ H
   tall = (stepped_keeps d e v w budget answer did).2 ∙ begun.1
 
-  pub room : table_size e.height e.subtree ≤ length w.table
+  pub room : table_size e.shape.height e.shape.subtree ≤ length w.table
   room =
       let keeps = stepped_keeps d e v w budget answer did in
       omega (arith, keeps.0, facts.0, ap₂ table_size tall (keeps.3 ∙ begun.2))
@@ -147,11 +140,11 @@ module _ {N : Type 0} (H h : ℕ) (v : World N) (wraps : Wraps v.meter) (d : Dra
           end
 
   pub rooted : (run : Run) (r : Result (N × (ℕ × ℕ)) Refusal) → Turned e (Ok run) → Finished run w.table r → DraftsRoot H h v r w
-  rooted run (Err r) (full, same-height, same-subtree, pulls, drafted, pulled) short = absurd (omega (arith, room, ap₂ table_size same-height same-subtree))
-  rooted run (Ok ended) (full, same-height, same-subtree, pulls, drafted, pulled) (value, made) =
-      let law = lawful_from H h v wraps (Ok d) begun _ _ w (and_step did (and_turn (Ok run) (full, same-height, same-subtree, pulls, drafted, pulled) stop)) in
+  rooted run (Err r) (full, same, pulls, drafted, pulled) short = absurd (omega (arith, room, ap (λ s. table_size s.height s.subtree) same))
+  rooted run (Ok ended) (full, same, pulls, drafted, pulled) (value, made) =
+      let law = lawful_from H h v wraps (Ok d) begun _ _ w (and_step did (and_turn (Ok run) (full, same, pulls, drafted, pulled) stop)) in
       let there = ⊎_elim (λ all. all.1) (λ lack. absurd (omega (arith, lack.0))) end in
-      let (leaves, top) = joined_whole e.height e.hash.leaves e.hash.newest e.standing.0 (omega (arith, e.standing.1)) in
+      let (leaves, top) = joined_whole e.shape.height e.hash.leaves e.hash.newest e.standing.0 (omega (arith, e.standing.1)) in
       let all-leaves : e.hash.leaves ≡ 2 ^ H = leaves ∙ ap (λ k. 2 ^ k) tall in
       let all-joins : e.hash.joins ≡ 2 ^ H - 1 = omega (arith, full, ap (λ k. 2 ^ (k + 1) - 1) tall, twice_pow H) in
       let pair : run.drafted ≡ (2 ^ H, 2 ^ H - 1) = drafted ∙ ap₂ (λ i j. (i, j)) all-leaves all-joins in
@@ -163,11 +156,3 @@ module _ {N : Type 0} (H h : ℕ) (v : World N) (wraps : Wraps v.meter) (d : Dra
         law.tree,
         around,
       )
-
--- begin refuses
-pub unbegun : {N : Type 0} (H h : ℕ) (v : World N) (r : Refusal) → first_refusal (begin_checks H h (length v.table) v.supply.size) ≡ Some r → DraftsRoot H h v (Err r) v
-unbegun H h v r e = (
-  ap (λ (o : Option Refusal). or_else o (first_lack v.supply (2 ^ H))) e,
-  λ _. refl,
-  record { meaning = refl; supply = refl; long = refl; past = λ y k far. refl },
-)

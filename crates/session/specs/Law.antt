@@ -1,8 +1,7 @@
 -- The law over all lists of calls on a draft, refused calls included.
-use Rattle.std.specs.Prelude.{◌≡◌, ℕ, ◌+◌, ◌-◌, ◌*◌, ◌^◌, ◌<◌, ◌≤◌, min, List, [], ◌∷◌, length, Ok, Err, Decides, Result, slice_index_or}
+use Rattle.std.specs.Prelude.{◌≡◌, ℕ, ◌+◌, ◌-◌, ◌*◌, ◌^◌, ◌<◌, ◌≤◌, min, List, [], ◌∷◌, length, Ok, Err, Result, slice_index_or}
 use Rattle.tree.specs.Meaning.{Meaning, after}
 use Rattle.tree.specs.Supply.{Supply, presence}
-use Rattle.tree.specs.declared.fault.Presence.TheVariants.{Present}
 use Rattle.tree.specs.Tree.{node_at, root_of}
 use Rattle.tree.specs.Geometry.{levels, table_size, existing_start}
 use Rattle.traversal.specs.declared.state.Draft.{Draft}
@@ -25,30 +24,35 @@ reported (Err r) = (0, 0)
 abbrev pub leaves_made : List Call → ℕ
 leaves_made [] = 0
 leaves_made (Step budget answer ∷ calls) = (reported answer).0 + leaves_made calls
-leaves_made (Turn accepted ∷ calls) = leaves_made calls
+leaves_made (Turn answer ∷ calls) = leaves_made calls
 
 abbrev pub joins_made : List Call → ℕ
 joins_made [] = 0
 joins_made (Step budget answer ∷ calls) = (reported answer).1 + joins_made calls
-joins_made (Turn accepted ∷ calls) = joins_made calls
+joins_made (Turn answer ∷ calls) = joins_made calls
 
 abbrev pub budgets : List Call → ℕ
 budgets [] = 0
 budgets (Step budget answer ∷ calls) = budget + budgets calls
-budgets (Turn accepted ∷ calls) = budgets calls
+budgets (Turn answer ∷ calls) = budgets calls
 
 -- no step is refused
 abbrev pub Unrefused : List Call → Type 0
 Unrefused [] = Unit
 Unrefused (Step budget (Ok made) ∷ calls) = Unrefused calls
 Unrefused (Step budget (Err r) ∷ calls) = ⊥
-Unrefused (Turn accepted ∷ calls) = Unrefused calls
+Unrefused (Turn answer ∷ calls) = Unrefused calls
 
--- a turn is accepted exactly if by then so many nodes are made, where some were made before
+-- a turn is accepted if all nodes are made, and refused with the number of those that are missing
+abbrev pub TurnAt : ℕ → ℕ → Result Unit ℕ → Type 0
+TurnAt all made (Ok _) = made ≡ all
+TurnAt all made (Err missing) = (0 < missing) × (made + missing ≡ all)
+
+-- so is each turn of a list, where some nodes were made before
 abbrev pub TurnsAt : ℕ → ℕ → List Call → Type 0
 TurnsAt all before [] = Unit
 TurnsAt all before (Step budget answer ∷ calls) = TurnsAt all (before + ((reported answer).0 + (reported answer).1)) calls
-TurnsAt all before (Turn accepted ∷ calls) = Decides accepted (before ≡ all) × TurnsAt all before calls
+TurnsAt all before (Turn answer ∷ calls) = TurnAt all before answer × TurnsAt all before calls
 
 -- the nodes of a tree of height H
 abbrev pub nodes : ℕ → ℕ
@@ -56,7 +60,7 @@ nodes H = 2 ^ (H + 1) - 1
 
 -- all tokens of the tree are there
 abbrev pub AllPresent : Supply → ℕ → Type 0
-AllPresent s H = (n : ℕ) → n < 2 ^ H → presence s n ≡ Present
+AllPresent s H = (n : ℕ) → n < 2 ^ H → presence s n ≡ Ok tt
 
 -- A table holds the root of the full tree, and the existing subtree of every level: row r of level i has the height
 -- (i - 1) h + r.
@@ -72,9 +76,9 @@ HeldTree m s H h (Running run) table = HoldsTree m s H h table
 
 -- What is held has the heights that were begun with, and knows the leaves and the joins made. A run has no pulls yet.
 abbrev pub HoldsCount : ℕ → ℕ → ℕ → ℕ → Held → Type 0
-HoldsCount H h leaves joins (Drafting d) = (d.height ≡ H) × (d.subtree ≡ h) × (made_so_far d ≡ (leaves, joins))
+HoldsCount H h leaves joins (Drafting d) = (d.shape.height ≡ H) × (d.shape.subtree ≡ h) × (made_so_far d ≡ (leaves, joins))
 HoldsCount H h leaves joins (Running run) =
-    (run.height ≡ H) × (run.subtree ≡ h) × (totals run ≡ record { pulls = 0; drafted = (leaves, joins); pulled = (0, 0) })
+    (run.shape.height ≡ H) × (run.shape.subtree ≡ h) × (totals run ≡ record { pulls = 0; drafted = (leaves, joins); pulled = (0, 0) })
 
 -- What every list of calls comes to, from a world v to a world w.
 pub record Lawful {N : Type 0} (H h : ℕ) (v : World N) (calls : List Call) (z : Held) (w : World N) : Type 0 where

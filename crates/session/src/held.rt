@@ -1,27 +1,28 @@
 use traversal::refusal::Refusal;
 use traversal::state::{Draft, Run};
 
-// What a session holds: a draft, and after the accepted turn a run.
+/// What a session holds: a draft, and after the accepted turn a run.
 pub enum Held {
     Drafting(Draft),
     Running(Run),
 }
 
-// A call that can be made on a draft.
-#[derive(Clone, Copy)]
+/// A call that can be made on a draft. The law is about lists of calls, and these are their letters.
+#[derive(Clone, Copy, Debug, PartialEq, Eq)]
 pub enum Ask {
     Step(u64),
     Turn,
 }
 
-// A call that was made, with what it answered.
-#[derive(Clone, Copy)]
+/// A call that was made, with what it answered.
+#[derive(Clone, Copy, Debug, PartialEq, Eq)]
 pub enum Call {
     Step {
         budget: u64,
         answer: Result<(u64, u64), Refusal>,
     },
+    /// Refused with the number of units that are missing.
     Turn {
-        accepted: bool,
+        answer: Result<(), u64>,
     },
 }

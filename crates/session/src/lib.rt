@@ -1,6 +1,7 @@
+//! Whole sessions of calls: from legal heights to the root, with the law over every list of calls.
+
 #![tactic(auto)]
 
-// Whole sessions of calls: from legal heights to the root, with the law over every list of calls.
 pub mod call;
 pub mod held;
 pub mod open;

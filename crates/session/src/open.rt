@@ -8,7 +8,8 @@ use traversal::state::Draft;
 use tree::maker::Maker;
 use tree::source::Source;
 
-// Begins a draft, and promises what every list of calls on it comes to.
+/// Begins a draft, and promises what every list of calls on it comes to. It takes the parts by `&`, since
+/// `Lent` would ask for more.
 pub fn open<M: Maker, S: Source>(
     height: u32,
     subtree: u32,

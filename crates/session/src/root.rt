@@ -1,61 +1,66 @@
 ghost use Rattle.std.specs.Prelude.{◌≡◌, ◌<◌, ◌≤◌, length, Some};
 ghost use Rattle.traversal.specs.declared.refusal.Refusal.{Refusal as Refused};
-ghost use Rattle.traversal.specs.Worlds.{world};
-ghost use Rattle.traversal.specs.Calls.{units, units_in_all, unit_lacks};
+ghost use Rattle.traversal.specs.Worlds.{world_of, SameLoans};
+ghost use Rattle.traversal.specs.Calls.{units, units_in_all, unit_lacks, Begun};
 ghost use Rattle.session.specs.Root.{DraftsRoot, Finished};
 
-use crate::open::open;
+use traversal::lent::Lent;
 use traversal::outcome::Incomplete;
 use traversal::refusal::Refusal;
 use traversal::state::{Draft, Run};
 use tree::maker::Maker;
 use tree::source::Source;
 
-// Drafts a whole tree: answers its root, and the leaves and the joins made.
+/// Drafts a whole tree: answers its root, and the leaves and the joins made.
 pub fn root<M: Maker, S: Source>(
     height: u32,
     subtree: u32,
-    table: &mut [M::Node],
-    maker: &mut M,
-    source: &mut S,
+    lent: &mut Lent<M, S>,
 ) -> Result<(M::Node, (u64, u64)), Refusal>
-    ensures { DraftsRoot height subtree (world table.old (M.meaning maker.old) (M.meter maker.old) (S.supply source.old)) result (world table.new (M.meaning maker.new) (M.meter maker.new) (S.supply source.new)) }
+    ensures drafted { DraftsRoot height subtree (world_of M.meaning M.meter S.supply lent.old) result (world_of M.meaning M.meter S.supply lent.new) }
+    ensures same_loans { SameLoans lent.old lent.new }
 {
-    let mut draft = open(height, subtree, table, maker, source)?;
-    let _ = draft.step(table, maker, source, u64::MAX);
+    let mut draft = begin(height, subtree, lent)?;
+    let _ = draft.step(lent, u64::MAX);
     match draft.turn() {
-        Ok(run) => finish(run, table),
-        Err(back) => {
-            let Incomplete { draft, missing: _ } = back;
-            Err(lack(draft, table, maker, source))
-        }
+        Ok(run) => finish(run, lent),
+        Err(Incomplete { draft, missing: _ }) => Err(lack(draft, lent)),
     }
 }
 
-// The root and what the draft made, of a run that is closed.
-fn finish<N: Copy>(run: Run, table: &[N]) -> Result<(N, (u64, u64)), Refusal>
-    ensures { Finished run table.now result }
+/// Begins a draft with what is lent. Of what lies behind a `&mut` the check lends one field at a time.
+fn begin<M: Maker, S: Source>(
+    height: u32,
+    subtree: u32,
+    lent: &Lent<M, S>,
+) -> Result<Draft, Refusal>
+    ensures { Begun height subtree (length lent.now.table.now) (S.supply lent.now.source.now) result }
 {
-    let root = run.root(table);
+    Draft::begin(height, subtree, lent.table, lent.source)
+}
+
+/// The root and what the draft made, of a run that is closed.
+fn finish<M: Maker, S: Source>(
+    run: Run,
+    lent: &Lent<M, S>,
+) -> Result<(M::Node, (u64, u64)), Refusal>
+    ensures { Finished run lent.now.table.now result }
+{
+    let root = run.root(lent.table);
     let totals = run.close();
     Ok((root?, totals.drafted))
 }
 
-// What the next unit of a draft lacks: a step is refused for it.
-fn lack<M: Maker, S: Source>(
-    draft: Draft,
-    table: &mut [M::Node],
-    maker: &mut M,
-    source: &mut S,
-) -> Refusal
-    requires room { draft.cells ≤ length table.old }
+/// What the next unit of a draft lacks: a step is refused for it.
+fn lack<M: Maker, S: Source>(mut draft: Draft, lent: &mut Lent<M, S>) -> Refusal
+    requires room { draft.shape.cells ≤ length lent.old.table.now }
     requires unfinished { units draft < units_in_all draft }
-    requires lacks { (r : Refused) × (unit_lacks draft (S.supply source.old) ≡ Some r) }
-    ensures lacks { unit_lacks draft (S.supply source.old) ≡ Some result }
-    ensures keeps { world table.new (M.meaning maker.new) (M.meter maker.new) (S.supply source.new) ≡ world table.old (M.meaning maker.old) (M.meter maker.old) (S.supply source.old) }
+    requires lacks { (r : Refused) × (unit_lacks draft (S.supply lent.old.source.now) ≡ Some r) }
+    ensures lacks { unit_lacks draft (S.supply lent.old.source.now) ≡ Some result }
+    ensures keeps { world_of M.meaning M.meter S.supply lent.new ≡ world_of M.meaning M.meter S.supply lent.old }
+    ensures same_loans { SameLoans lent.old lent.new }
 {
-    let mut draft = draft;
-    let answer = draft.step(table, maker, source, 1);
+    let answer = draft.step(lent, 1);
     let _ = draft.abandon();
     match answer {
         Ok(_) => unreachable(),

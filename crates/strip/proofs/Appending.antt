@@ -1,15 +1,12 @@
 -- Bytes put one after another.
-use Rattle.std.proofs.Common.{◌≡◌, ℕ, ◌+◌, ◌-◌, ◌<◌, ◌≤◌, List, [], ◌∷◌, ◌++◌, length, get_or, take, drop, Ok, Err, Result, sym, refl, ap, ◌∙◌, ap₂, add-zero, arith, length-append}
+use Rattle.std.proofs.Common.{◌≡◌, ℕ, ◌+◌, ◌-◌, ◌<◌, ◌≤◌, List, [], ◌∷◌, ◌++◌, length, get_or, take, drop, Ok, Err, Result, sym, ap, ◌∙◌, ap₂, arith, length-append, length-take, length-drop}
 use borrow.Rule.Slice.PartMut.{put_mid}
-use Rattle.std.proofs.lemmas.List.{append-nil, append_assoc, drop-drop, drop_all, take-append-drop, take_more, flat_map_more}
+use Rattle.std.proofs.lemmas.List.{append-nil, append_assoc, drop-drop, drop_all, take-append-drop, length-take-le, take_more, flat_map_more}
 use Rattle.std.proofs.lemmas.Slice.{take-put_mid, drop-put_mid}
 use Rattle.tree.specs.declared.fault.TooShort.{TooShort}
 use Rattle.tree.specs.Meaning.{Meaning, Puts}
 use Rattle.tree.specs.Path.{path_bytes}
 use Rattle.strip.specs.Calls.{Appends}
-
-pub appends_none : (before : List ℕ) (at : ℕ) → Appends before at [] before at
-appends_none before at = record { end_is = sym (add-zero at); front = sym (append-nil (take at before)); back = refl }
 
 pub appends_then : {a b c : List ℕ} {at mid end : ℕ} {xs ys : List ℕ} → Appends a at xs b mid → Appends b mid ys c end → Appends a at (xs ++ ys) c end
 appends_then {a} {b} {c} {at} {mid} {end} {xs} {ys} one two =
@@ -24,9 +21,6 @@ appends_then {a} {b} {c} {at} {mid} {end} {xs} {ys} one two =
 -- all that was put from the front on
 pub appends_all : {before bytes later : List ℕ} {end : ℕ} → Appends before 0 bytes later end → later ≡ bytes ++ drop end before
 appends_all {before} {bytes} {later} {end} all = sym (take-append-drop end later) ∙ ap₂ ◌++◌ all.front all.back
-
-pub appends_front : {before bytes later : List ℕ} {end : ℕ} → Appends before 0 bytes later end → take end later ≡ bytes
-appends_front all = all.front
 
 -- a part that is overwritten whole
 pub appends_part : (before part bytes : List ℕ) (at k end : ℕ) → end ≡ at + k → at + k ≤ length before → part ≡ bytes → length bytes ≡ k → Appends before at bytes (put_mid at (end - at) before part) end
@@ -49,3 +43,11 @@ path_bytes_more m nodes i x lt is =
     flat_map_more m.put [] (take i nodes) x
     ∙ ap (λ y. path_bytes m (take i nodes ++ y ∷ [])) is
     ∙ ap (path_bytes m) (sym (take_more nodes i x lt))
+
+-- what is appended inside a slice leaves its length
+pub appends_length : {before bytes later : List ℕ} {at end : ℕ} → Appends before at bytes later end → end ≤ length before → length later ≡ length before
+appends_length {before} {bytes} {later} {at} {end} put room =
+    let last = put.end_is in
+    let front = sym (length-take end later) ∙ ap length put.front ∙ length-append (take at before) bytes ∙ ap (λ k. k + length bytes) (length-take-le at before (omega arith)) in
+    let back = sym (length-drop end later) ∙ ap length put.back ∙ length-drop end before in
+    omega arith

@@ -10,7 +10,7 @@ use Rattle.strip.specs.Calls.{nodes_in}
 use Rattle.strip.proofs.Rules.{first, rules_then, rule_kept, rule_ends, rule_broken}
 
 some_is_not_none : {A : Type 0} (x : A) → Some x ≡ None → ⊥
-some_is_not_none x e = let z : ◌≡◌ {A = ℕ} 0 1 = cc in omega arith
+some_is_not_none x e = cc
 
 both_none : (a b : Option Fault) → first a b ≡ None → (a ≡ None) × (b ≡ None)
 both_none None b e = (refl, e)

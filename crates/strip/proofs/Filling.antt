@@ -1,10 +1,11 @@
 -- Cells filled with the nodes of a path, one after another.
-use Rattle.std.proofs.Common.{◌≡◌, ℕ, ◌+◌, ◌-◌, ◌<◌, List, [], ◌∷◌, ◌++◌, length, take, drop, set, Some, None, sym, refl, ap, ◌∙◌, arith}
-use native.Mathlib.Nat.{sub-zero}
+use Rattle.std.proofs.Common.{◌≡◌, ℕ, ◌+◌, ◌-◌, ◌*◌, ◌/◌, ◌<◌, ◌≤◌, List, [], ◌∷◌, ◌++◌, length, take, drop, set, Some, None, sym, ap, ◌∙◌, subst, ⊎_elim, add-mul, one-mul, arith, length-append}
 use Rattle.std.proofs.lemmas.List.{append_assoc, append-nil, drop-drop, drop-set-lt, take-append-drop, take_more_set}
+use Rattle.std.proofs.lemmas.Bool.{cases_lt}
 use Rattle.tree.specs.Meaning.{Meaning}
 use Rattle.tree.specs.Path.{front_node, nodes_of}
 use Rattle.tree.proofs.Folding.{nodes_more, nodes_stop}
+use Rattle.strip.proofs.Chunks.{chunk_fits, chunk_behind, chunk_front, short_front, chunks_upto, chunks_within}
 
 module _ {N : Type 0} (m : Meaning N) (path : List ℕ) (H : ℕ) (before : List N) where
   -- After i cells: what is filled and what is left of the bytes are the path's nodes.
@@ -12,11 +13,6 @@ module _ {N : Type 0} (m : Meaning N) (path : List ℕ) (H : ℕ) (before : List
     pub nodes : take i cells ++ nodes_of m (H - i) rest ≡ nodes_of m H path
     pub left : length (nodes_of m (H - i) rest) ≡ H - i
     pub kept : drop i cells ≡ drop i before
-
-  pub filled_none : length (nodes_of m H path) ≡ H → Filled 0 path before
-  filled_none all =
-      let whole = ap (λ k. nodes_of m k path) (sub-zero H) in
-      record { nodes = whole; left = ap length whole ∙ all ∙ sym (sub-zero H); kept = refl }
 
   module _ {i : ℕ} {rest : List ℕ} {cells : List N} (so_far : Filled i rest cells) where
     pub not_none : i < H → None ≡ front_node m rest → ⊥
@@ -42,3 +38,30 @@ module _ {N : Type 0} (m : Meaning N) (path : List ℕ) (H : ℕ) (before : List
         sym (take-append-drop i cells)
         ∙ ap (λ l. l ++ drop i cells) whole
         ∙ ap (λ l. nodes_of m H path ++ l) (so_far.kept ∙ ap (λ k. drop k before) done)
+
+-- the same, chunk by chunk
+module _ {N : Type 0} (m : Meaning N) (least : 1 ≤ m.width) (path : List ℕ) (before : List N) {i : ℕ} {rest : List ℕ} {cells : List N} (so_far : Filled m path (length path / m.width) before i rest cells) (all : i * m.width + length rest ≡ length path) where
+  module _ (node later : List ℕ) (split : rest ≡ node ++ later) (fills : length node ≡ m.width) where
+    pub chunk_within : i < length path / m.width
+    chunk_within = chunks_within m path rest i least all (chunk_fits m rest node later split fills)
+
+    pub chunk_all : (i + 1) * m.width + length later ≡ length path
+    chunk_all =
+        let one : (i + 1) * m.width ≡ i * m.width + m.width = simp (add-mul, one-mul) in
+        let long = ap length split ∙ length-append node later in
+        omega arith
+
+    pub chunk_not_none : None ≡ front_node m node → ⊥
+    chunk_not_none e = not_none m path _ before so_far chunk_within (e ∙ chunk_front m rest node later split fills)
+
+    pub chunk_filled : i < length cells → (x : N) → Some x ≡ front_node m node → Filled m path (length path / m.width) before (i + 1) later (set cells i x)
+    chunk_filled room x e =
+        subst (λ l. Filled m path (length path / m.width) before (i + 1) l (set cells i x)) (chunk_behind m rest node later split fills)
+        (filled_more m path _ before so_far chunk_within room x (e ∙ chunk_front m rest node later split fills))
+
+  pub chunks_filled : length rest < m.width → cells ≡ nodes_of m (length path / m.width) path ++ drop (length path / m.width) before
+  chunks_filled short =
+      let upto = chunks_upto m path rest i least all in
+      ⊎_elim (λ lt. absurd (not_none m path _ before so_far lt (short_front m rest short)))
+      (λ ge. filled_all m path _ before so_far (omega arith))
+      (cases_lt i (length path / m.width))

@@ -1,13 +1,12 @@
 -- Where a faultless strip leads.
-use Rattle.std.proofs.Common.{◌≡◌, ℕ, ◌+◌, ◌*◌, ◌/◌, ◌^◌, ◌<◌, Bool, true, false, eqb, ltb, List, length, get_or, take, Some, None, Ok, Err, Result, sym, refl, ap, ◌∙◌, subst, ap₂, mul_comm, arith, length-drop}
+use Rattle.std.proofs.Common.{◌≡◌, ℕ, ◌+◌, ◌*◌, ◌/◌, ◌^◌, ◌<◌, Bool, true, eqb, List, length, get_or, Some, None, Ok, Err, Result, sym, ap, ◌∙◌, ap₂, mul_comm, arith, length-drop}
 use Rattle.std.proofs.lemmas.Nat.{div-mul-add}
-use Rattle.std.proofs.lemmas.Bool.{cond-true, cond-false, eq-eqb, ne_eqb, lt-ltb, le-ltb, both_ways}
+use Rattle.std.proofs.lemmas.Bool.{cond-true, eq-eqb, ne_eqb, lt-ltb}
 use Rattle.std.proofs.lemmas.Bool.Decides.{when_true, when_false}
-use Rattle.std.proofs.lemmas.List.{take_all}
 use Rattle.tree.specs.Meaning.{Meaning, Lawful, Meter}
 use Rattle.tree.specs.Numbers.{legal_height}
 use Rattle.tree.specs.Tree.{root_of, path_of}
-use Rattle.tree.specs.Path.{leads_to, front_node, nodes_of, path_nodes, folded}
+use Rattle.tree.specs.Path.{leads_to, nodes_of, path_nodes, folded}
 use Rattle.tree.proofs.Climbing.{path_leads_to_root, length_siblings}
 use Rattle.tree.specs.Digests.{sealed_meaning}
 use Rattle.tree.specs.Spans.{dummy_meaning}
@@ -18,18 +17,19 @@ use Rattle.strip.specs.declared.refusal.Refusal.TheVariants.{Short}
 use Rattle.strip.specs.Format.{strip_bytes, height_in, number_in, token_in, path_in, fault_in}
 use Rattle.strip.specs.Refusals.{or_else}
 use Rattle.strip.specs.Calls.{nodes_in, leads, Holds, Checks, AcceptsFullTree, Judges, AcceptsRoot, JudgesByKind}
-use Rattle.strip.specs.Foreign.{Tells, ChecksSealed, AcceptsSealed}
 use Rattle.strip.proofs.Faultless.{Faultless, faultless}
 use Rattle.strip.proofs.Written.{holds, kind_at}
 
 module _ {N : Type 0} (m : Meaning N) (lawful : Lawful m) (bs : List ℕ) where
   -- the path's bytes are nodes from end to end
-  pub path_nodes_in : Faultless m bs → path_nodes m (path_in bs) ≡ nodes_in m bs
-  path_nodes_in ok =
-      let H : ℕ = height_in bs in
+  pub path_chunks : Faultless m bs → length (path_in bs) / m.width ≡ height_in bs
+  path_chunks ok =
       let size = ok.size in
-      let long : length (path_in bs) ≡ H * m.width + 0 = simp length-drop (omega arith) in
-      ap (λ k. nodes_of m k (path_in bs)) (ap (λ k. k / m.width) long ∙ div-mul-add H m.width 0 lawful.at_least)
+      let long : length (path_in bs) ≡ height_in bs * m.width + 0 = simp length-drop (omega arith) in
+      ap (λ k. k / m.width) long ∙ div-mul-add (height_in bs) m.width 0 lawful.at_least
+
+  pub path_nodes_in : Faultless m bs → path_nodes m (path_in bs) ≡ nodes_in m bs
+  path_nodes_in ok = ap (λ k. nodes_of m k (path_in bs)) (path_chunks ok)
 
   pub folded_in : Faultless m bs → (n : ℕ) (x : N) → folded m n x (path_in bs) ≡ Some (leads_to m.join n x (nodes_in m bs))
   folded_in ok n x =
@@ -46,7 +46,7 @@ module _ {N : Type 0} (m : Meaning N) (lawful : Lawful m) (bs : List ℕ) where
     folded_here x = ap (folded m n x) is-path ∙ folded_in (faultless m bs none) n x
 
     pub never_none : (x : N) → None ≡ folded m n x path → ⊥
-    never_none x e = let is = folded_here x in let z : ◌≡◌ {A = ℕ} 0 1 = cc in omega arith
+    never_none x e = let is = folded_here x in cc
 
     pub leads_up : (x y : N) → x ≡ m.leaf n secret → Some y ≡ folded m n x path → y ≡ leads m bs
     leads_up x y leaf e =
@@ -79,8 +79,7 @@ module _ {N : Type 0} (m : Meaning N) (lawful : Lawful m) (bs : List ℕ) where
       ap Ok (checked.1.1 (full_leads tokens H n legal below long is-strip ∙ sym is-root))
   accepts top before later (Err r) checked tokens H n legal below long is-strip is-root =
       let none = sym (ap (λ o. or_else o None) (full_faultless tokens H n legal below long is-strip)) ∙ checked.0 in
-      let z : ◌≡◌ {A = ℕ} 0 1 = cc in
-      absurd (omega arith)
+      absurd (cc)
 
   -- and so does a verdict against the bytes of the root
   pub accepts_root : (top : List ℕ) (r : Result Bool Refusal) → Judges m top bs r → AcceptsRoot m top bs r
@@ -91,29 +90,7 @@ module _ {N : Type 0} (m : Meaning N) (lawful : Lawful m) (bs : List ℕ) where
       let size = ap length is-root ∙ lawful.fills (root_of m tokens H) in
       let fits = cond-true (eqb (length top) m.width) None (Some (Short m.width)) (eq-eqb _ _ size) in
       let none = sym (ap₂ or_else (full_faultless tokens H n legal below long is-strip) fits) ∙ judged in
-      let z : ◌≡◌ {A = ℕ} 0 1 = cc in
-      absurd (omega arith)
-
-  -- a root in bytes of the right length
-  module _ (top : List ℕ) (long : length top ≡ m.width) where
-    at_root : front_node m top ≡ m.read top
-    at_root =
-        cond-false (ltb (length top) m.width) None (m.read (take m.width top)) (le-ltb _ _ (omega arith))
-        ∙ ap m.read (take_all m.width top (omega arith))
-
-    pub judges_none : fault_in m bs ≡ None → None ≡ front_node m top → Judges m top bs (Ok false)
-    judges_none none e =
-        let nothing = sym at_root ∙ sym e in
-        (none, long, ((λ f. absurd (both_ways false refl f)), λ found. let z : ◌≡◌ {A = ℕ} 0 1 = cc in absurd (omega arith)))
-
-    pub judges : fault_in m bs ≡ None → (x : N) → Some x ≡ front_node m top → (before later : Meter) (r : Result Bool Refusal) → Checks m bs x before later r → Judges m top bs r
-    judges none x e before later (Ok verdict) checked =
-        let found = sym at_root ∙ sym e in
-        (none, long, ((λ yes. found ∙ ap Some (sym (checked.1.0 yes))), λ is. checked.1.1 (let same : leads m bs ≡ x = cc in same)))
-    judges none x e before later (Err r) checked =
-        let refused = sym (ap (λ o. or_else o None) none) ∙ checked.0 in
-        let z : ◌≡◌ {A = ℕ} 0 1 = cc in
-        absurd (omega arith)
+      absurd (cc)
 
 -- By the kind byte: the strips of either maker's full trees.
 pub accepts_sealed : (top bs : List ℕ) (r : Result Bool Refusal) → JudgesByKind top bs r → AcceptsRoot sealed_meaning top bs r
@@ -127,13 +104,3 @@ accepts_dummy top bs r judged tokens H n legal below long is-strip is-root =
     let kind = full_kind dummy_meaning dummy_lawful bs tokens H n legal below long is-strip in
     let this = when_true (Judges dummy_meaning top bs r) (Judges sealed_meaning top bs r) (eq-eqb (get_or bs 1 0) 2 kind) judged in
     accepts_root dummy_meaning dummy_lawful bs top r this tokens H n legal below long is-strip is-root
-
--- the call for C
-pub accepts_foreign : (bs top : List ℕ) (r : ℕ) → ChecksSealed bs top r → AcceptsSealed bs top r
-accepts_foreign bs top r told tokens H n legal below long is-strip is-root =
-    let root = root_of sealed_meaning tokens H in
-    let size = ap length is-root ∙ sealed_lawful.fills root in
-    let none = full_faultless sealed_meaning sealed_lawful bs tokens H n legal below long is-strip in
-    let told_here = when_true (Tells bs top (fault_in sealed_meaning bs) r) (r ≡ 7) (eq-eqb (length top) 32 size) told in
-    let verdict : Tells bs top None r = subst (λ o. Tells bs top o r) none told_here in
-    verdict.0 (ap sealed_meaning.read is-root ∙ sealed_lawful.reads_back root ∙ ap Some (sym (full_leads sealed_meaning sealed_lawful bs tokens H n legal below long is-strip)))

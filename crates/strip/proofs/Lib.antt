@@ -1,3 +1,4 @@
+pub mod Chunks
 pub mod Rules
 pub mod Faultless
 pub mod Filling
@@ -5,3 +6,4 @@ pub mod Written
 pub mod Spelling
 pub mod Leading
 pub mod Appending
+pub mod Returning

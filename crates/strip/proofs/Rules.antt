@@ -1,9 +1,12 @@
 -- Rules for bytes, one after another.
-use Rattle.std.proofs.Common.{◌≡◌, ℕ, suc, ◌+◌, ◌-◌, ◌<◌, ◌≤◌, Bool, true, false, cond, ltb, List, [], ◌∷◌, ◌++◌, length, take, drop, is_some, Some, None, Option, sym, refl, ap, ◌∙◌, ap₂, arith, length-drop}
+use Rattle.std.proofs.Common.{◌≡◌, ℕ, suc, ◌+◌, ◌-◌, ◌*◌, ◌<◌, ◌≤◌, min, Bool, true, false, cond, ltb, List, [], ◌∷◌, ◌++◌, length, take, drop, is_some, Some, None, Option, sym, refl, ap, ◌∙◌, ap₂, subst, ⊎_elim, le_refl, add-mul, one-mul, zero-mul, arith, length-drop}
 use native.Mathlib.Nat.{sub-zero}
-use Rattle.std.proofs.lemmas.Bool.{cond-true, cond-false, lt-ltb, le-ltb, le-leb, lt-leb}
+use Rattle.std.proofs.lemmas.Bool.{cond-true, cond-false, lt-ltb, le-ltb, le-leb, lt-leb, cases_lt}
 use Rattle.std.proofs.lemmas.List.{drop-drop}
+use Rattle.std.proofs.lemmas.Nat.{mul-le}
 use Rattle.tree.specs.Meaning.{Meaning}
+use Rattle.tree.specs.Path.{front_node}
+use Rattle.strip.proofs.Chunks.{chunk_fits, chunk_behind, chunk_reads}
 use Rattle.strip.specs.declared.refusal.Section.TheVariants.{Path}
 use Rattle.strip.specs.declared.refusal.Fault.{Fault}
 use Rattle.strip.specs.Format.{Rule, fault, first_broken, height_in, head_rules, token_rules, count_rules, node_rules, fault_in}
@@ -46,8 +49,10 @@ module _ (bs : List ℕ) where
       pub within : p ≤ length bs
       pub same : first_broken bs (node_rules m bs p (H - i)) ≡ first_broken bs (node_rules m bs 41 H)
 
-    pub passed_none : (rest : List ℕ) → 41 ≤ length bs → rest ≡ drop 41 bs → Passed 0 41 rest
-    passed_none rest long e = record { here = e; within = long; same = ap (λ k. first_broken bs (node_rules m bs 41 k)) (sub-zero H) }
+    pub passed_none : (rest : List ℕ) → 41 ≤ length bs → rest ≡ drop 41 bs → Passed 0 (41 + 0 * m.width) rest
+    passed_none rest long e =
+        subst (λ p. Passed 0 p rest) (sym (ap (λ k. 41 + k) (zero-mul m.width)))
+        (record { here = e; within = long; same = ap (λ k. first_broken bs (node_rules m bs 41 k)) (sub-zero H) })
 
     module _ {i p : ℕ} {rest : List ℕ} (so_far : Passed i p rest) where
       size : length rest + p ≡ length bs
@@ -85,6 +90,53 @@ module _ (bs : List ℕ) where
 
       pub ends_surplus : i ≡ H → (length rest ≡ 0 → ⊥) → first_broken bs (node_rules m bs 41 H) ≡ Some (fault p Path)
       ends_surplus done some = let s = size in sym (last done) ∙ rule_broken _ [] so_far.within (lt-leb (length bs) p (omega arith))
+
+    -- a node that came as the next chunk of what is left
+    module _ {i : ℕ} {rest : List ℕ} (so_far : Passed i (41 + i * m.width) rest) (node later : List ℕ) (split : rest ≡ node ++ later) (fills : length node ≡ m.width) where
+      read : is_some (m.read (take m.width rest)) ≡ is_some (front_node m node)
+      read = ap is_some (sym (chunk_reads m rest node later split fills))
+
+      pub passed_chunk : i < H → is_some (front_node m node) ≡ true → Passed (i + 1) (41 + (i + 1) * m.width) later
+      passed_chunk lt e =
+          let place : 41 + i * m.width + m.width ≡ 41 + (i + 1) * m.width = simp (add-mul, one-mul) (omega arith) in
+          subst (λ p. Passed (i + 1) p later) place (subst (λ l. Passed (i + 1) (41 + i * m.width + m.width) l) (chunk_behind m rest node later split fills) (passed_more so_far lt (chunk_fits m rest node later split fills) (read ∙ e)))
+
+      pub chunk_none : i < H → is_some (front_node m node) ≡ false → first_broken bs (node_rules m bs 41 H) ≡ Some (fault (41 + i * m.width) Path)
+      chunk_none lt e = stops_none so_far lt (chunk_fits m rest node later split fills) (read ∙ e)
+
+    -- when all H nodes were passed, or too few bytes are left for the next
+    module _ {i : ℕ} {rest : List ℕ} (so_far : Passed i (41 + i * m.width) rest) (upto : i ≤ H) (over : i < H → length rest < m.width) where
+      left : length rest + (41 + i * m.width) ≡ length bs
+      left = size so_far
+
+      before : i < H → length bs < 41 + H * m.width
+      before lt =
+          let more = mul-le (i + 1) m.width H m.width (omega arith) (le_refl m.width) in
+          let row : (i + 1) * m.width ≡ i * m.width + m.width = simp (add-mul, one-mul) in
+          let few = over lt in
+          let all = left in
+          omega arith
+
+      at_end : i ≡ H → length rest + (41 + H * m.width) ≡ length bs
+      at_end done = ap (λ k. length rest + (41 + k * m.width)) (sym done) ∙ left
+
+      pub ends_whole : length bs ≡ 41 + H * m.width → first_broken bs (node_rules m bs 41 H) ≡ None
+      ends_whole e =
+          ⊎_elim (λ lt. absurd (let short = before lt in omega arith))
+          (λ ge. let done : i ≡ H = omega arith in ends_empty so_far done (let all = at_end done in omega arith))
+          (cases_lt i H)
+
+      pub ends_other : (length bs ≡ 41 + H * m.width → ⊥) → first_broken bs (node_rules m bs 41 H) ≡ Some (fault (min (41 + H * m.width) (length bs)) Path)
+      ends_other e =
+          ⊎_elim (λ lt.
+          let short = before lt in
+          stops_short so_far lt (over lt) ∙ ap (λ p. Some (fault p Path)) (omega arith))
+          (λ ge.
+          let done : i ≡ H = omega arith in
+          let all = at_end done in
+          let place : 41 + i * m.width ≡ min (41 + H * m.width) (length bs) = ap (λ k. 41 + k * m.width) done ∙ omega arith in
+          ends_surplus so_far done (λ none. e (omega arith)) ∙ ap (λ p. Some (fault p Path)) place)
+          (cases_lt i H)
 
 -- the first fault, section by section
 pub fault_is : {N : Type 0} (m : Meaning N) (bs : List ℕ) (k H : ℕ) (a b c d : Option Fault) →

@@ -23,7 +23,7 @@ module _ {N : Type 0} (m : Meaning N) (one : OneSpelling m) where
   -- a node at the front is spelled by the bytes there
   front_spelled : (bytes : List ℕ) (x : N) → ((i : ℕ) → get_or bytes i 0 < 256) → front_node m bytes ≡ Some x → (m.width ≤ length bytes) × (m.put x ≡ take m.width bytes)
   front_spelled bytes x each e =
-      ⊎_elim (λ short. absurd (let none = cond-true (ltb (length bytes) m.width) None (m.read (take m.width bytes)) short in let z : ◌≡◌ {A = ℕ} 0 1 = cc in omega arith))
+      ⊎_elim (λ short. absurd (let none = cond-true (ltb (length bytes) m.width) None (m.read (take m.width bytes)) short in cc))
       (λ long.
       let room = ltb-false (length bytes) m.width long in
       let found = sym (cond-false (ltb (length bytes) m.width) None (m.read (take m.width bytes)) long) ∙ e in

@@ -1,5 +1,5 @@
 -- The bytes of a strip have no fault and hold what was written.
-use Rattle.std.proofs.Common.{◌≡◌, ℕ, ◌*◌, ◌^◌, ◌<◌, Bool, true, ltb, List, [], ◌∷◌, ◌++◌, length, get_or, take, drop, Some, None, Ok, sym, refl, ap, ◌∙◌, subst, ap₂, ⊎_elim, arith, length-append, pow_mono}
+use Rattle.std.proofs.Common.{◌≡◌, ℕ, ◌*◌, ◌^◌, ◌<◌, ◌≤◌, ◌+◌, Bool, true, ltb, List, [], ◌∷◌, ◌++◌, length, get_or, take, drop, Some, None, Ok, sym, refl, ap, ◌∙◌, subst, ap₂, ⊎_elim, arith, length-append, pow_mono}
 use Rattle.std.proofs.lemmas.List.{take_at, drop_at, get_or_at, append-nil, append_assoc, drop-drop, length-take-le}
 use Rattle.std.proofs.lemmas.Bool.{and_parts, leb-true, ltb-true, eq-eqb, cases_Bool, cond-true, cond-false}
 use Rattle.tree.specs.Meaning.{Meaning, Lawful}
@@ -8,10 +8,10 @@ use Rattle.tree.specs.Path.{path_bytes, nodes_of}
 use Rattle.tree.proofs.Nodes.{length_path_bytes, nodes_of_path_bytes}
 use Rattle.tree.specs.Numbering.{number_at_bytes}
 use Rattle.strip.specs.Format.{strip_bytes, height_in, number_in, token_in, first_broken, head_rules, token_rules, count_rules, node_rules}
-use Rattle.strip.specs.Calls.{strip_length, Holds, write_checks, Refuses, Appends, Writes}
+use Rattle.strip.specs.Calls.{strip_length, Holds, write_checks, write_refusal, Refuses, Appends, Writes}
 use Rattle.tree.specs.Refusals.{first_refusal}
 use Rattle.strip.specs.declared.refusal.Refusal.{Refusal}
-use Rattle.strip.proofs.Appending.{appends_then, appends_all, appends_front}
+use Rattle.strip.proofs.Appending.{appends_then, appends_all}
 use Rattle.strip.proofs.Rules.{fault_is}
 use Rattle.strip.proofs.Faultless.{no_fault, nodes_faultless}
 
@@ -108,9 +108,33 @@ passed (check ∷ checks) e =
     ⊎_elim (λ good. (good, passed checks (sym (cond-true check.0 (first_refusal checks) (Some check.1) good) ∙ e)))
     (λ bad.
     let some = sym (cond-false check.0 (first_refusal checks) (Some check.1) bad) ∙ e in
-    let z : ◌≡◌ {A = ℕ} 0 1 = cc in
-    absurd (omega arith))
+    absurd (cc))
     (cases_Bool check.0)
+
+-- what the checks leave room for, and how much is taken
+pub record Fits {N : Type 0} (m : Meaning N) (H n : ℕ) (siblings : List N) (secret before : List ℕ) : Type 0 where
+  pub legal : legal_height H ≡ true
+  pub below : ltb n (2 ^ H) ≡ true
+  pub path : H ≤ length siblings
+  pub token : 32 ≤ length secret
+  pub strip : 41 + H * m.width ≤ length before
+  pub path_taken : length (take H siblings) ≡ H
+  pub token_taken : length (take 32 secret) ≡ 32
+
+pub fits : {N : Type 0} (m : Meaning N) (H n : ℕ) (siblings : List N) (secret before : List ℕ) → write_refusal m H n (length siblings) (length secret) (length before) ≡ None → Fits m H n siblings secret before
+fits m H n siblings secret before e =
+    let checks = passed (write_checks m H n (length siblings) (length secret) (length before)) e in
+    let path = leb-true H (length siblings) checks.1.1.0 in
+    let token = leb-true 32 (length secret) checks.1.1.1.0 in
+    record {
+      legal = checks.0;
+      below = checks.1.0;
+      path = path;
+      token = token;
+      strip = leb-true (strip_length m H) (length before) checks.1.1.1.1.0;
+      path_taken = length-take-le H siblings path;
+      token_taken = length-take-le 32 secret token;
+    }
 
 -- the parts of a strip, put one after another
 pub strip_row : {N : Type 0} (m : Meaning N) (H n k : ℕ) (num secret : List ℕ) (siblings : List N) {out a b c d e f : List ℕ} {p q r s t u : ℕ} →
@@ -130,13 +154,11 @@ pub written : {N : Type 0} (m : Meaning N) → Lawful m → (H n : ℕ) (sibling
     Appends before 0 (strip_bytes m H n (take 32 secret) (take H siblings)) later end →
     Writes m H n siblings secret before later (Ok long)
 written m ok H n siblings secret before later long end room all =
-    let checks = passed (write_checks m H n (length siblings) (length secret) (length before)) room.0 in
-    let cells = length-take-le H siblings (leb-true H (length siblings) checks.1.1.0) in
-    let token = length-take-le 32 secret (leb-true 32 (length secret) checks.1.1.1.0) in
-    let size = length_strip m ok H n (take 32 secret) (take H siblings) token cells in
+    let all_fits = fits m H n siblings secret before room.0 in
+    let size = length_strip m ok H n (take 32 secret) (take H siblings) all_fits.token_taken all_fits.path_taken in
     let last = all.end_is in
     let at : end ≡ long = let needed = room.1 in omega arith in
     let now-is = appends_all all ∙ ap (λ k. strip_bytes m H n (take 32 secret) (take H siblings) ++ drop k before) at in
-    let front = sym (ap (λ k. take k later) (sym at) ∙ appends_front all) in
-    let whole = holds m ok H n (take 32 secret) (take H siblings) token cells checks.0 checks.1.0 in
+    let front = sym (ap (λ k. take k later) (sym at) ∙ all.front) in
+    let whole = holds m ok H n (take 32 secret) (take H siblings) all_fits.token_taken all_fits.path_taken all_fits.legal all_fits.below in
     (room.0, room.1, now-is, subst (λ bs. Holds m bs H n (take 32 secret) (take H siblings)) front whole)

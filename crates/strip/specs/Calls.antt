@@ -1,5 +1,5 @@
 -- What writing, reading and checking a strip answer, and what they leave.
-use Rattle.std.specs.Prelude.{◌≡◌, ℕ, ◌+◌, ◌*◌, ◌^◌, ◌<◌, Bool, true, List, [], ◌∷◌, ◌++◌, length, take, drop, Some, None, Ok, Err, Decides, MatchBool, Option, Result, ◌==◌, nat_le, nat_lt, slice_index}
+use Rattle.std.specs.Prelude.{◌≡◌, ℕ, ◌+◌, ◌*◌, ◌^◌, ◌<◌, Bool, true, List, [], ◌∷◌, ◌++◌, length, take, drop, Some, None, Ok, Err, Decides, MatchBool, MatchOption, Option, Result, ◌==◌, nat_le, nat_lt, slice_index}
 use Rattle.tree.specs.Meaning.{Meaning, Meter, OneSpelling, after}
 use Rattle.tree.specs.Numbers.{legal_height}
 use Rattle.tree.specs.Tree.{root_of, path_of}
@@ -106,6 +106,12 @@ Judges m top bs (Ok verdict) =
     (fault_in m bs ≡ None) × (length top ≡ m.width) × Decides verdict (m.read top ≡ Some (leads m bs))
 Judges m top bs (Err r) =
     or_else (fault_in m bs) (first_refusal (((length top == m.width), Short m.width) ∷ [])) ≡ Some r
+
+-- What judging makes: one leaf and H joins, where the strip has no fault and the root is a node; else nothing.
+abbrev pub CountsJudging : {N : Type 0} → Meaning N → List ℕ → List ℕ → Result Bool Refusal → Meter → Meter → Type 0
+CountsJudging m top bs (Ok _) before later =
+    MatchOption (m.read top) (later ≡ before) (λ _. later ≡ after 1 (height_in bs) before)
+CountsJudging m top bs (Err _) before later = later ≡ before
 
 -- The kind byte picks the maker. Where it names none, the sealed maker refuses the strip.
 abbrev pub JudgesByKind : List ℕ → List ℕ → Result Bool Refusal → Type 0

@@ -2,6 +2,6 @@ pub mod Format
 pub mod Refusals
 pub mod Calls
 pub mod Sections
+pub mod Writing
 pub mod Hex
-pub mod Foreign
 pub mod Figures

@@ -1,5 +1,6 @@
 -- What each refusal is called, and which of several comes.
-use Rattle.std.specs.Prelude.{ℕ, List, [], ◌∷◌, Some, None, Option}
+use Rattle.std.specs.Prelude.{ℕ, List, [], ◌∷◌, ◌++◌, Some, None, codes, decimal, Option}
+use Rattle.tree.specs.Refusals.{spaced}
 use Rattle.strip.specs.declared.refusal.Section.{Section}
 use Rattle.strip.specs.declared.refusal.Section.TheVariants.{Head, Token, Path}
 use Rattle.strip.specs.declared.refusal.Fault.{Fault}
@@ -22,3 +23,11 @@ numbered (NoStrip f) = (11, f.place ∷ section_number f.section ∷ [])
 abbrev pub or_else : Option Fault → Option Refusal → Option Refusal
 or_else None o = o
 or_else (Some f) o = Some (NoStrip f)
+
+-- the word, the refusal's number and its values
+abbrev pub refusal_line : Refusal → List ℕ
+refusal_line r = codes "refused" ++ spaced ((numbered r).0 ∷ (numbered r).1)
+
+-- a fault in print: its place and its section
+abbrev pub fault_text : Fault → List ℕ
+fault_text f = decimal f.place ++ (codes " " ++ decimal (section_number f.section))

@@ -1,5 +1,5 @@
 -- What reading one section after the other answers.
-use Rattle.std.specs.Prelude.{◌≡◌, ℕ, List, drop, Some, None, Ok, Err, Result}
+use Rattle.std.specs.Prelude.{◌≡◌, ℕ, List, Some, None, Ok, Err, Result}
 use Rattle.std.specs.Borrow.{Bor}
 use Rattle.tree.specs.Meaning.{Meaning}
 use Rattle.strip.specs.declared.refusal.Fault.{Fault}
@@ -9,13 +9,11 @@ use Rattle.strip.specs.Format.{height_in, number_in, token_in, path_in, head_rul
 
 abbrev pub HeadRead : ℕ → List ℕ → Result HeadPart Fault → Type 0
 HeadRead kind bs (Ok h) =
-    (first_broken bs (head_rules kind bs) ≡ None)
-    × (h.height ≡ height_in bs) × (h.number ≡ number_in bs) × (h.rest.now ≡ drop 7 bs)
+    (first_broken bs (head_rules kind bs) ≡ None) × (h.height ≡ height_in bs) × (h.number ≡ number_in bs)
 HeadRead kind bs (Err f) = first_broken bs (head_rules kind bs) ≡ Some f
 
-abbrev pub TokenRead : List ℕ → Result (Bor (List ℕ) × Bor (List ℕ)) Fault → Type 0
-TokenRead bs (Ok parts) =
-    (first_broken bs (token_rules bs) ≡ None) × (parts.0.now ≡ token_in bs) × (parts.1.now ≡ drop 40 bs)
+abbrev pub TokenRead : List ℕ → Result (Bor (List ℕ)) Fault → Type 0
+TokenRead bs (Ok token) = (first_broken bs (token_rules bs) ≡ None) × (token.now ≡ token_in bs)
 TokenRead bs (Err f) = first_broken bs (token_rules bs) ≡ Some f
 
 abbrev pub CountRead : List ℕ → Result (Bor (List ℕ)) Fault → Type 0

@@ -6,7 +6,7 @@ use crate::refusal::Refusal;
 use tree::fold::fold;
 use tree::maker::Maker;
 
-// Whether a strip's token and path lead to the root.
+/// Whether a strip's token and path lead to the root.
 pub fn check<M: Maker>(maker: &mut M, bytes: &[u8], root: M::Node) -> Result<bool, Refusal>
     ensures answer { Checks (M.meaning maker.old) bytes.now root (M.meter maker.old) (M.meter maker.new) result }
     ensures full_tree { AcceptsFullTree (M.meaning maker.old) bytes.now root result }

@@ -1,19 +1,38 @@
-// The count bytes of a strip's first two sections, and the length of a token.
-pub const HEAD_COUNT: u8 = 6;
+ghost use Rattle.std.specs.Prelude.{◌≡◌};
+ghost use Rattle.strip.specs.Calls.{strip_length};
 
-pub const TOKEN_COUNT: u8 = 32;
+use tree::maker::Maker;
 
-pub const TOKEN_LENGTH: usize = 32;
+/// The count byte of the head.
+pub(crate) const HEAD_COUNT: u8 = 6;
 
-// Where the parts of a strip begin.
-pub const KIND_PLACE: usize = 1;
+/// The count byte of the token.
+pub(crate) const TOKEN_COUNT: u8 = 32;
 
-pub const HEIGHT_PLACE: usize = 2;
+/// How many bytes a token has.
+pub(crate) const TOKEN_LENGTH: usize = 32;
 
-pub const NUMBER_PLACE: usize = 3;
+/// Where the byte of the kind stands.
+pub(crate) const KIND_PLACE: usize = 1;
 
-pub const TOKEN_PLACE: usize = 7;
+/// Where the byte of the height stands.
+pub(crate) const HEIGHT_PLACE: usize = 2;
 
-pub const PATH_PLACE: usize = 40;
+/// Where the four bytes of the number begin.
+pub(crate) const NUMBER_PLACE: usize = 3;
 
-pub const NODES_PLACE: usize = 41;
+/// Where the token's section begins, with its count byte.
+pub(crate) const TOKEN_PLACE: usize = 7;
+
+/// Where the path's section begins, with its count byte.
+pub(crate) const PATH_PLACE: usize = 40;
+
+/// Where the nodes of the path begin.
+pub(crate) const NODES_PLACE: usize = 41;
+
+/// How many bytes a strip of a maker has in a tree of this height.
+pub fn strip_length<M: Maker>(maker: &M, height: u32) -> usize
+    ensures { result ≡ strip_length (M.meaning maker.now) height }
+{
+    NODES_PLACE + height as usize * maker.width()
+}

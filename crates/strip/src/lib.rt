@@ -1,12 +1,12 @@
+//! Proof strips: written, read, and checked against the root of a tree.
+
 #![tactic(auto)]
 
-// Proof strips: written, read, and checked against the root of a tree.
 pub mod check;
 pub mod figures;
-pub mod foreign;
 pub mod hex;
 pub mod judge;
-mod layout;
+pub mod layout;
 pub mod parse;
 pub mod read;
 pub mod refusal;

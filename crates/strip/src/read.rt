@@ -1,5 +1,5 @@
-ghost use Rattle.std.specs.Prelude.{◌≡◌, ◌≤◌, ◌++◌, length, drop};
-ghost use Rattle.tree.specs.Path.{nodes_of};
+ghost use Rattle.std.specs.Prelude.{◌≡◌, ◌≤◌, ◌/◌, ◌++◌, length, drop};
+ghost use Rattle.tree.specs.Path.{path_nodes};
 ghost use Rattle.strip.specs.Calls.{ReadsStrip, SpellsBack};
 
 use crate::parse::{Strip, parse};
@@ -7,7 +7,7 @@ use crate::refusal::Refusal;
 use tree::fold::front_node;
 use tree::maker::Maker;
 
-// Takes a strip apart and fills the first cells with the nodes of its path.
+/// Takes a strip apart and fills the first cells with the nodes of its path.
 pub fn read<'a, M: Maker>(
     maker: &M,
     bytes: &'a [u8],
@@ -21,23 +21,21 @@ pub fn read<'a, M: Maker>(
     if cells.len() < height {
         return Err(Refusal::Short(height));
     }
-    fill(maker, strip.path, height, cells);
+    fill(maker, strip.path, cells);
     Ok(strip)
 }
 
-// Fills the first cells with the nodes at the front of a path that has as many.
-fn fill<M: Maker>(maker: &M, path: &[u8], height: usize, cells: &mut [M::Node])
-    requires room { height ≤ length cells.old }
-    requires nodes { length (nodes_of (M.meaning maker.now) height path.now) ≡ height }
-    ensures { cells.new ≡ nodes_of (M.meaning maker.now) height path.now ++ drop height cells.old }
+/// Fills the first cells with the nodes of a path. The cells are numbered and not zipped with the path, since
+/// nothing is known of what a `zip` with an `iter_mut` wrote.
+fn fill<M: Maker>(maker: &M, path: &[u8], cells: &mut [M::Node])
+    requires nodes { length (path_nodes (M.meaning maker.now) path.now) ≡ length path.now / (M.meaning maker.now).width }
+    requires room { length (path_nodes (M.meaning maker.now) path.now) ≤ length cells.old }
+    ensures { cells.new ≡ path_nodes (M.meaning maker.now) path.now ++ drop (length (path_nodes (M.meaning maker.now) path.now)) cells.old }
 {
-    let width = maker.width();
-    let mut rest = path;
-    for i in 0..height {
-        let Some(node) = front_node(maker, rest) else {
+    for (i, bytes) in path.chunks_exact(maker.width()).enumerate() {
+        let Some(node) = front_node(maker, bytes) else {
             unreachable()
         };
         cells[i] = node;
-        rest = &rest[width..];
     }
 }

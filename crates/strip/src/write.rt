@@ -1,14 +1,14 @@
 ghost use Rattle.std.specs.Prelude.{◌≡◌, ◌+◌, ◌*◌, ◌≤◌, ◌++◌, length};
 ghost use Rattle.tree.specs.Path.{path_bytes};
-ghost use Rattle.strip.specs.Calls.{strip_length, write_refusal, Writes, Refuses, Appends};
+ghost use Rattle.strip.specs.Calls.{strip_length, write_refusal, Writes, Refuses};
 
-use crate::layout::{HEAD_COUNT, NODES_PLACE, TOKEN_COUNT, TOKEN_LENGTH};
+use crate::layout::{HEAD_COUNT, TOKEN_COUNT, TOKEN_LENGTH, strip_length};
 use crate::refusal::Refusal;
 use tree::height::{has_leaf, is_height};
 use tree::maker::Maker;
 
-// Writes the strip of a number: its token is the first 32 bytes of `token`, and its path the first
-// `height` cells of `path`. Answers its length.
+/// Writes the strip of a number: its token is the first 32 bytes of `token`, and its path the first
+/// `height` cells of `path`. Answers its length.
 pub fn write<M: Maker>(
     maker: &M,
     height: u32,
@@ -21,16 +21,19 @@ pub fn write<M: Maker>(
 {
     let needed = room(maker, height, number, path.len(), token.len(), out.len())?;
     let count = height as u8;
-    let at = append(out, 0, &[HEAD_COUNT, maker.kind(), count]);
-    let at = append(out, at, &number.to_be_bytes());
-    let at = append(out, at, &[TOKEN_COUNT]);
-    let at = append(out, at, &token[0..TOKEN_LENGTH]);
-    let at = append(out, at, &[count]);
-    put_path(maker, &path[0..height as usize], out, at);
+    let path = &path[..height as usize];
+    let token = &token[..TOKEN_LENGTH];
+    let mut writer = Writer { out, place: 0 };
+    writer.put(&[HEAD_COUNT, maker.kind(), count]);
+    writer.put(&number.to_be_bytes());
+    writer.put(&[TOKEN_COUNT]);
+    writer.put(token);
+    writer.put(&[count]);
+    writer.put_path(maker, path);
     Ok(needed)
 }
 
-// How long the strip is, or why it can't be written.
+/// How long the strip is, or why it can't be written.
 fn room<M: Maker>(
     maker: &M,
     height: u32,
@@ -54,40 +57,48 @@ fn room<M: Maker>(
     if token < TOKEN_LENGTH {
         return Err(Refusal::Short(TOKEN_LENGTH));
     }
-    let needed = NODES_PLACE + count * maker.width();
+    let needed = strip_length(maker, height);
     if out < needed {
         return Err(Refusal::Short(needed));
     }
     Ok(needed)
 }
 
-// Puts bytes at a place of `out`; answers the place after them.
-fn append(out: &mut [u8], at: usize, bytes: &[u8]) -> usize
-    requires { at + length bytes.now ≤ length out.old }
-    ensures { Appends out.old at bytes.now out.new result }
-{
-    let end = at + bytes.len();
-    out[at..end].copy_from_slice(bytes);
-    end
+/// Puts pieces into `out` one after another; the next goes to `place`. The library's writers answer an error
+/// for want of room, which is ruled out here.
+#[derive(Drop)]
+struct Writer<'a> {
+    out: &'a mut [u8],
+    place: usize,
 }
 
-// Puts the nodes of a path at a place of `out`, one after another.
-fn put_path<M: Maker>(maker: &M, path: &[M::Node], out: &mut [u8], at: usize) -> usize
-    requires { at + length path.now * (M.meaning maker.now).width ≤ length out.old }
-    ensures { Appends out.old at (path_bytes (M.meaning maker.now) path.now) out.new result }
-{
-    let mut end = at;
-    for node in path {
-        end = put_node(maker, *node, out, end);
+impl Writer<'_> {
+    ghost use Rattle.strip.specs.Writing.{Puts};
+
+    fn put(&mut self, bytes: &[u8])
+        requires { self.old.place + length bytes.now ≤ length self.old.out.now }
+        ensures { Puts self.old bytes.now self.new }
+    {
+        let end = self.place + bytes.len();
+        self.out[self.place..end].copy_from_slice(bytes);
+        self.place = end;
     }
-    end
-}
 
-fn put_node<M: Maker>(maker: &M, node: M::Node, out: &mut [u8], at: usize) -> usize
-    requires { at + (M.meaning maker.now).width ≤ length out.old }
-    ensures { Appends out.old at ((M.meaning maker.now).put node) out.new result }
-{
-    let end = at + maker.width();
-    let _ = maker.put(node, &mut out[at..end]);
-    end
+    fn put_node<M: Maker>(&mut self, maker: &M, node: M::Node)
+        requires { self.old.place + (M.meaning maker.now).width ≤ length self.old.out.now }
+        ensures { Puts self.old ((M.meaning maker.now).put node) self.new }
+    {
+        let end = self.place + maker.width();
+        maker.put(node, &mut self.out[self.place..end]).unwrap();
+        self.place = end;
+    }
+
+    fn put_path<M: Maker>(&mut self, maker: &M, path: &[M::Node])
+        requires { self.old.place + length path.now * (M.meaning maker.now).width ≤ length self.old.out.now }
+        ensures { Puts self.old (path_bytes (M.meaning maker.now) path.now) self.new }
+    {
+        for node in path {
+            self.put_node(maker, *node);
+        }
+    }
 }

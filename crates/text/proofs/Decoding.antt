@@ -1,8 +1,11 @@
 -- Decoding two digits at a time.
-use Rattle.std.proofs.Common.{◌≡◌, ℕ, ◌+◌, ◌*◌, ◌/◌, ◌%◌, ◌<◌, ◌≤◌, List, [], ◌∷◌, ◌++◌, length, get_or, drop, Some, None, Option, sym, refl, ap, ◌∙◌, ap₂, arith}
+use Rattle.std.proofs.Common.{◌≡◌, ℕ, ◌+◌, ◌*◌, ◌/◌, ◌%◌, ◌<◌, ◌≤◌, List, [], ◌∷◌, ◌++◌, length, get_or, take, drop, Some, None, Err, Option, ok_or, sym, refl, ap, ◌∙◌, ap₂, arith}
 use Rattle.std.proofs.lemmas.List.{append_assoc, append-nil, drop_more, drop_all}
+use Rattle.std.specs.Simd.{first_chunks}
 use Rattle.strip.specs.Hex.{digit_value}
+use Rattle.text.specs.declared.hex.NoBytes.{NoBytes}
 use Rattle.text.specs.Hex.{byte_before, bytes_of}
+use Rattle.tree.proofs.Listing.{chunk_at}
 
 -- bytes with others before them
 abbrev pub after : List ℕ → Option (List ℕ) → Option (List ℕ)
@@ -28,20 +31,31 @@ push_before : (done : List ℕ) (high low : ℕ) (o : Option (List ℕ)) → aft
 push_before done high low None = refl
 push_before done high low (Some rest) = ap Some (sym (append_assoc done ((16 * high + low) ∷ []) rest))
 
-module _ (text : List ℕ) (i : ℕ) (within : i < length text / 2) where
-  pair : drop (2 * i) text ≡ get_or text (2 * i) 0 ∷ get_or text (2 * i + 1) 0 ∷ drop (2 * (i + 1)) text
-  pair =
+-- a byte that is no digit
+pub no_digit : (o : Option ℕ) (why given : NoBytes) → Err given ≡ ok_or o why → (None ≡ o) × (given ≡ why)
+no_digit None why given is = (refl, cc)
+no_digit (Some v) why given is = absurd cc
+
+-- a text that is cut into pairs
+module _ (text : List ℕ) (pairs : List (List ℕ)) (cut : pairs ≡ first_chunks 2 (length text / 2) text) (i : ℕ) (within : i < length text / 2) where
+  two : drop (2 * i) text ≡ get_or text (2 * i) 0 ∷ get_or text (2 * i + 1) 0 ∷ drop (2 * (i + 1)) text
+  two =
       let next : 2 * i + 1 + 1 ≡ 2 * (i + 1) = omega arith in
       drop_more text (2 * i) 0 (omega arith)
       ∙ ap (λ l. get_or text (2 * i) 0 ∷ l) (drop_more text (2 * i + 1) 0 (omega arith) ∙ ap (λ k. get_or text (2 * i + 1) 0 ∷ drop k text) next)
 
-  pub pair_read : (done : List ℕ) (a b : Option ℕ) → bytes_of text ≡ after done (bytes_of (drop (2 * i) text)) → a ≡ digit_value (get_or text (2 * i) 0) → b ≡ digit_value (get_or text (2 * i + 1) 0) → bytes_of text ≡ after done (byte_before a b (bytes_of (drop (2 * (i + 1)) text)))
-  pair_read done a b so_far is-a is_b =
-      so_far ∙ ap (λ l. after done (bytes_of l)) pair ∙ ap₂ (λ x y. after done (byte_before x y (bytes_of (drop (2 * (i + 1)) text)))) (sym is-a) (sym is_b)
+  left : drop (2 * i) text ≡ get_or (get_or pairs i []) 0 0 ∷ get_or (get_or pairs i []) 1 0 ∷ drop (2 * (i + 1)) text
+  left =
+      let pair = ap (λ l. get_or l i []) cut ∙ chunk_at 2 (length text / 2) i text within ∙ ap (take 2) two in
+      two ∙ ap (λ l. get_or l 0 0 ∷ get_or l 1 0 ∷ drop (2 * (i + 1)) text) (sym pair)
 
-  pub pair_more : (done : List ℕ) (high low : ℕ) → bytes_of text ≡ after done (bytes_of (drop (2 * i) text)) → Some high ≡ digit_value (get_or text (2 * i) 0) → Some low ≡ digit_value (get_or text (2 * i + 1) 0) → bytes_of text ≡ after (done ++ (16 * high + low) ∷ []) (bytes_of (drop (2 * (i + 1)) text))
-  pair_more done high low so_far is-high is-low =
-      pair_read done (Some high) (Some low) so_far is-high is-low ∙ push_before done high low (bytes_of (drop (2 * (i + 1)) text))
+  pub pair_read : (done : List ℕ) (a b : Option ℕ) → bytes_of text ≡ after done (bytes_of (drop (2 * i) text)) → a ≡ digit_value (get_or (get_or pairs i []) 0 0) → b ≡ digit_value (get_or (get_or pairs i []) 1 0) → bytes_of text ≡ after done (byte_before a b (bytes_of (drop (2 * (i + 1)) text)))
+  pair_read done a b so_far is_a is_b =
+      so_far ∙ ap (λ l. after done (bytes_of l)) left ∙ ap₂ (λ x y. after done (byte_before x y (bytes_of (drop (2 * (i + 1)) text)))) (sym is_a) (sym is_b)
+
+  pub pair_more : (done : List ℕ) (high low : ℕ) → bytes_of text ≡ after done (bytes_of (drop (2 * i) text)) → Some high ≡ digit_value (get_or (get_or pairs i []) 0 0) → Some low ≡ digit_value (get_or (get_or pairs i []) 1 0) → bytes_of text ≡ after (done ++ (16 * high + low) ∷ []) (bytes_of (drop (2 * (i + 1)) text))
+  pair_more done high low so_far is_high is_low =
+      pair_read done (Some high) (Some low) so_far is_high is_low ∙ push_before done high low (bytes_of (drop (2 * (i + 1)) text))
 
 pub all_read : (text done : List ℕ) (i : ℕ) → length text / 2 ≤ i → length text % 2 ≡ 0 → bytes_of text ≡ after done (bytes_of (drop (2 * i) text)) → bytes_of text ≡ Some done
 all_read text done i over even so_far =

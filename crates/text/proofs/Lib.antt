@@ -1,2 +1,2 @@
 mod Decoding
-mod Wording
+mod Damaging

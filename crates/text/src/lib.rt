@@ -1,4 +1,7 @@
+//! What the programs print and read: answers, damage and hex digits.
+
 #![tactic(auto)]
 
 pub mod answer;
+pub mod damage;
 pub mod hex;

@@ -1,11 +1,12 @@
 -- The set of all tickets, piece by piece.
-use Rattle.std.proofs.Common.{◌≡◌, ℕ, ◌+◌, ◌<◌, ◌≤◌, List, [], ◌++◌, length, take, drop, replicate, codes, sym, refl, ap, ◌∙◌, subst, add-zero, arith, lit≤, length-append, length-drop}
-use Rattle.std.proofs.lemmas.List.{length-replicate, length-take-le}
-use Rattle.ticket.specs.declared.job.Kind.{Kind}
-use Rattle.ticket.specs.declared.job.Kind.TheVariants.{Sealed}
-use Rattle.ticket.specs.Texts.{kind_line, number_line, hex_text}
-use Rattle.ticket.specs.Reading.{IsTicket, WrongAt}
-use Rattle.ticket.specs.Pieces.{GoodNumber, GoodSeed, Stands, Fails}
+use Rattle.std.proofs.Common.{◌≡◌, ℕ, ◌+◌, List, [], ◌∷◌, ◌++◌, length, replicate, codes, refl, ap, ◌∙◌, zero-add, arith, lit≤, length-append}
+use Rattle.std.proofs.lemmas.List.{length-replicate}
+use Rattle.tree.specs.declared.kind.Kind.{Kind}
+use Rattle.tree.specs.declared.kind.Kind.TheVariants.{Sealed}
+use Rattle.strip.specs.Hex.{hex_text}
+use Rattle.ticket.specs.Texts.{kind_line, number_line}
+use Rattle.ticket.specs.Reading.{IsTicket, WrongAt, WrongLeft}
+use Rattle.ticket.specs.Pieces.{GoodNumber, GoodSeed, Fails}
 use Rattle.ticket.proofs.Languages.{begun, wrong_word, wrong_after}
 use Rattle.ticket.proofs.Names.{kinds_apart}
 use Rattle.ticket.proofs.Numerals.{numbers_apart}
@@ -151,77 +152,92 @@ wrong_too Is Js to from bs p wrong = record {
 pub wrong_ticket : (bs : List ℕ) (p : ℕ) → WrongAt tickets bs p → WrongAt IsTicket bs p
 wrong_ticket = wrong_too tickets IsTicket from_pieces to_pieces
 
--- From a place on, what is left of the text goes wrong.
-abbrev pub WrongFrom : (List ℕ → Type 0) → List ℕ → ℕ → ℕ → Type 0
-WrongFrom Is text at p = (q : ℕ) × (p ≡ at + q) × WrongAt Is (drop at text) q
-
-module _ {A : Type 0} (Good : A → Type 0) (word : A → List ℕ) (Rest : A → List ℕ → Type 0) (text : List ℕ) (at : ℕ) where
-  -- in a word
-  pub wrong_here : ((a : A) → Good a → (ys : List ℕ) × Rest a ys) → (p : ℕ) → Fails Good word text at p → WrongFrom (begun Good word Rest) text at p
-  wrong_here some p fails =
+module _ {A : Type 0} (Good : A → Type 0) (word : A → List ℕ) (Rest : A → List ℕ → Type 0) (xs : List ℕ) (left : ℕ) where
+  -- wrong in a word
+  pub wrong_here : ((a : A) → Good a → (ys : List ℕ) × Rest a ys) → Fails Good word xs left → WrongLeft (begun Good word Rest) xs left
+  wrong_here some fails =
       let wrong = fails.2 in
       let more = some wrong.begins.0 wrong.begins.1 in
-      (fails.0, fails.1, wrong_word Good word Rest (drop at text) fails.0 wrong more.0 more.1)
+      (fails.0, fails.1, wrong_word Good word Rest xs fails.0 wrong more.0 more.1)
 
   -- after it
-  pub wrong_later : ((a b : A) → Good a → Good b → (rest : List ℕ) → word a ≡ word b ++ rest → a ≡ b) → (a : A) → Good a → at ≤ length text → (next p : ℕ) → Stands text at (word a) next → WrongFrom (Rest a) text next p → WrongFrom (begun Good word Rest) text at p
-  wrong_later apart a good within next p stands wrong =
-      let q = wrong.0 in
-      let size = sym (length-drop at text) ∙ ap length stands.1 ∙ length-append (word a) (drop next text) in
-      let left = length-drop next text in
-      let inside = stands.0 in
+  pub wrong_later : ((a b : A) → Good a → Good b → (rest : List ℕ) → word a ≡ word b ++ rest → a ≡ b) → (a : A) → Good a → (ys : List ℕ) → xs ≡ word a ++ ys → WrongLeft (Rest a) ys left → WrongLeft (begun Good word Rest) xs left
+  wrong_later apart a good ys is wrong =
+      let size = ap length is ∙ length-append (word a) ys in
       let place = wrong.1 in
-      (length (word a) + q, omega arith, wrong_after Good word Rest apart a good (drop at text) (drop next text) q stands.1 wrong.2)
+      (length (word a) + wrong.0, omega arith, wrong_after Good word Rest apart a good xs ys wrong.0 is wrong.2)
 
 -- the same for a plain word
-pub some_literal : (word : List ℕ) (R : List ℕ → Type 0) (text : List ℕ) (at : ℕ) → (ys : List ℕ) × R ys → (p : ℕ) → Fails {A = Unit {0}} (λ _. Unit {0}) (λ _. word) text at p → WrongFrom (after word R) text at p
-some_literal word R text at some p fails = wrong_here {A = Unit {0}} (λ _. Unit {0}) (λ _. word) (λ _. R) text at (λ a g. some) p fails
+pub literal_here : (word : List ℕ) (R : List ℕ → Type 0) → (ys : List ℕ) × R ys → (xs : List ℕ) (left : ℕ) → Fails {A = Unit {0}} (λ _. Unit {0}) (λ _. word) xs left → WrongLeft (after word R) xs left
+literal_here word R some xs left = wrong_here {A = Unit {0}} (λ _. Unit {0}) (λ _. word) (λ _. R) xs left (λ a g. some)
 
-pub past_literal : (word : List ℕ) (R : List ℕ → Type 0) (text : List ℕ) (at : ℕ) → at ≤ length text → (next p : ℕ) → Stands text at word next → WrongFrom R text next p → WrongFrom (after word R) text at p
-past_literal word R text at within next p stands wrong = wrong_later {A = Unit {0}} (λ _. Unit {0}) (λ _. word) (λ _. R) text at (λ a b ga gb rest e. refl) tt tt within next p stands wrong
-
--- the whole text goes wrong where the tickets do
-pub wrong_text : (text : List ℕ) (p : ℕ) → WrongFrom tickets text 0 p → WrongAt IsTicket text p
-wrong_text text p wrong =
-    let same : wrong.0 ≡ p = let e = wrong.1 in omega arith in
-    subst (WrongAt IsTicket text) same (wrong_ticket text wrong.0 wrong.2)
+literal_later : (word : List ℕ) (R : List ℕ → Type 0) (xs ys : List ℕ) (left : ℕ) → xs ≡ word ++ ys → WrongLeft R ys left → WrongLeft (after word R) xs left
+literal_later word R xs ys left = wrong_later {A = Unit {0}} (λ _. Unit {0}) (λ _. word) (λ _. R) xs left (λ a b ga gb rest e. refl) tt tt ys
 
 -- bytes after the end
-pub wrong_end : (text : List ℕ) (at : ℕ) → at < length text → WrongFrom (λ xs. xs ≡ []) text at at
-wrong_end text at more =
-    let size = length-drop at text in (
-      0,
-      sym (add-zero at),
-      record {
-        within = omega arith;
-        begins = ([], refl);
-        stops = λ lt rest e. let one = length-take-le 1 (drop at text) (omega arith) in let all = length-append (take 1 (drop at text)) rest in omega (arith, ap length e);
-        lacks = λ end e. omega arith;
-      },
-    )
+pub wrong_end : (xs : List ℕ) → (xs ≡ [] → ⊥) → WrongLeft (λ ys. ys ≡ []) xs (length xs)
+wrong_end [] some = absurd (some refl)
+wrong_end (x ∷ xs) some = (
+  0,
+  zero-add (length (x ∷ xs)),
+  record {
+    within = omega arith;
+    begins = ([], refl);
+    stops = λ lt rest e. omega (arith, ap length e);
+    lacks = λ end e. some e;
+  },
+)
 
--- a kind, a number or the seed goes wrong, or what follows it does
-module _ (text : List ℕ) (at : ℕ) where
-  pub kind_here : (p : ℕ) → Fails (λ _. Unit {0}) kind_line text at p → WrongFrom kinds text at p
-  kind_here = wrong_here (λ _. Unit {0}) kind_line (λ k. after (codes "height ") heights) text at (λ a g. some_after (codes "height ") heights some_height)
+-- a kind, a number or the seed goes wrong
+pub kind_here : (xs : List ℕ) (left : ℕ) → Fails (λ _. Unit {0}) kind_line xs left → WrongLeft kinds xs left
+kind_here xs left = wrong_here (λ _. Unit {0}) kind_line (λ k. after (codes "height ") heights) xs left (λ a g. some_after (codes "height ") heights some_height)
 
-  pub kind_later : (k : Kind) → at ≤ length text → (next p : ℕ) → Stands text at (kind_line k) next → WrongFrom (after (codes "height ") heights) text next p → WrongFrom kinds text at p
-  kind_later k = wrong_later (λ _. Unit {0}) kind_line (λ k. after (codes "height ") heights) text at kinds_apart k tt
+pub height_here : (xs : List ℕ) (left : ℕ) → Fails GoodNumber number_line xs left → WrongLeft heights xs left
+height_here xs left = wrong_here GoodNumber number_line (λ H. after (codes "subtree ") subtrees) xs left (λ a g. some_after (codes "subtree ") subtrees some_subtree)
 
-  pub height_here : (p : ℕ) → Fails GoodNumber number_line text at p → WrongFrom heights text at p
-  height_here = wrong_here GoodNumber number_line (λ H. after (codes "subtree ") subtrees) text at (λ a g. some_after (codes "subtree ") subtrees some_subtree)
+pub subtree_here : (xs : List ℕ) (left : ℕ) → Fails GoodNumber number_line xs left → WrongLeft subtrees xs left
+subtree_here xs left = wrong_here GoodNumber number_line (λ h. after (codes "seed ") seeds) xs left (λ a g. some_after (codes "seed ") seeds some_seed)
 
-  pub height_later : (H : ℕ) → GoodNumber H → at ≤ length text → (next p : ℕ) → Stands text at (number_line H) next → WrongFrom (after (codes "subtree ") subtrees) text next p → WrongFrom heights text at p
-  height_later = wrong_later GoodNumber number_line (λ H. after (codes "subtree ") subtrees) text at numbers_apart
+pub seed_here : (xs : List ℕ) (left : ℕ) → Fails GoodSeed hex_text xs left → WrongLeft seeds xs left
+seed_here xs left = wrong_here GoodSeed hex_text (λ seed. ended) xs left (λ a g. (codes "\n", some_end))
 
-  pub subtree_here : (p : ℕ) → Fails GoodNumber number_line text at p → WrongFrom subtrees text at p
-  subtree_here = wrong_here GoodNumber number_line (λ h. after (codes "seed ") seeds) text at (λ a g. some_after (codes "seed ") seeds some_seed)
+-- A ticket that was read up to a piece, with so many bytes left where what follows goes wrong.
+module _ {text : List ℕ} (left : ℕ) where
+  pub past_none : WrongLeft tickets text left → WrongLeft IsTicket text left
+  past_none wrong = (wrong.0, wrong.1, wrong_ticket text wrong.0 wrong.2)
 
-  pub subtree_later : (h : ℕ) → GoodNumber h → at ≤ length text → (next p : ℕ) → Stands text at (number_line h) next → WrongFrom (after (codes "seed ") seeds) text next p → WrongFrom subtrees text at p
-  subtree_later = wrong_later GoodNumber number_line (λ h. after (codes "seed ") seeds) text at numbers_apart
+  module _ {a : List ℕ} (maker : text ≡ codes "maker " ++ a) where
+    pub past_maker : WrongLeft kinds a left → WrongLeft IsTicket text left
+    past_maker wrong = past_none (literal_later (codes "maker ") kinds text a left maker wrong)
 
-  pub seed_here : (p : ℕ) → Fails GoodSeed hex_text text at p → WrongFrom seeds text at p
-  seed_here = wrong_here GoodSeed hex_text (λ seed. ended) text at (λ a g. (codes "\n", some_end))
+    module _ (k : Kind) {b : List ℕ} (kind : a ≡ kind_line k ++ b) where
+      pub past_kind : WrongLeft (after (codes "height ") heights) b left → WrongLeft IsTicket text left
+      past_kind wrong = past_maker (wrong_later (λ _. Unit {0}) kind_line (λ k. after (codes "height ") heights) a left kinds_apart k tt b kind wrong)
 
-  pub seed_later : (seed : List ℕ) → GoodSeed seed → at ≤ length text → (next p : ℕ) → Stands text at (hex_text seed) next → WrongFrom ended text next p → WrongFrom seeds text at p
-  seed_later = wrong_later GoodSeed hex_text (λ seed. ended) text at seeds_apart
+      module _ {c : List ℕ} (tall : b ≡ codes "height " ++ c) where
+        pub past_tall : WrongLeft heights c left → WrongLeft IsTicket text left
+        past_tall wrong = past_kind (literal_later (codes "height ") heights b c left tall wrong)
+
+        module _ {H : ℕ} {d : List ℕ} (height : GoodNumber H × (c ≡ number_line H ++ d)) where
+          pub past_height : WrongLeft (after (codes "subtree ") subtrees) d left → WrongLeft IsTicket text left
+          past_height wrong = past_tall (wrong_later GoodNumber number_line (λ H. after (codes "subtree ") subtrees) c left numbers_apart H height.0 d height.1 wrong)
+
+          module _ {e : List ℕ} (small : d ≡ codes "subtree " ++ e) where
+            pub past_small : WrongLeft subtrees e left → WrongLeft IsTicket text left
+            past_small wrong = past_height (literal_later (codes "subtree ") subtrees d e left small wrong)
+
+            module _ {h : ℕ} {f : List ℕ} (subtree : GoodNumber h × (e ≡ number_line h ++ f)) where
+              pub past_subtree : WrongLeft (after (codes "seed ") seeds) f left → WrongLeft IsTicket text left
+              past_subtree wrong = past_small (wrong_later GoodNumber number_line (λ h. after (codes "seed ") seeds) e left numbers_apart h subtree.0 f subtree.1 wrong)
+
+              module _ {g : List ℕ} (secret : f ≡ codes "seed " ++ g) where
+                pub past_secret : WrongLeft seeds g left → WrongLeft IsTicket text left
+                past_secret wrong = past_subtree (literal_later (codes "seed ") seeds f g left secret wrong)
+
+                module _ (s : List ℕ) {i : List ℕ} (seed : GoodSeed s × (g ≡ hex_text s ++ i)) where
+                  pub past_seed : WrongLeft ended i left → WrongLeft IsTicket text left
+                  past_seed wrong = past_secret (wrong_later GoodSeed hex_text (λ seed. ended) g left seeds_apart s seed.0 i seed.1 wrong)
+
+                  module _ {j : List ℕ} (last : i ≡ codes "\n" ++ j) where
+                    pub past_last : WrongLeft (λ xs. xs ≡ []) j left → WrongLeft IsTicket text left
+                    past_last wrong = past_seed (literal_later (codes "\n") (λ xs. xs ≡ []) i j left last wrong)

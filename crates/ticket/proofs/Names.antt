@@ -1,11 +1,10 @@
 -- The names of the makers.
 use Rattle.std.proofs.Common.{◌≡◌, ℕ, ◌+◌, ◌<◌, List, ◌++◌, length, get_or, take, sym, refl, ap, ◌∙◌, subst, arith}
 use Rattle.std.proofs.lemmas.List.{get_or-take, get_or_append_left, length-take-le}
-use Rattle.ticket.specs.declared.job.Kind.{Kind}
-use Rattle.ticket.specs.declared.job.Kind.TheVariants.{Sealed, Dummy}
+use Rattle.tree.specs.declared.kind.Kind.{Kind}
+use Rattle.tree.specs.declared.kind.Kind.TheVariants.{Sealed, Dummy}
 use Rattle.ticket.specs.Texts.{kind_line}
 use Rattle.ticket.specs.Pieces.{WrongWord}
-use Rattle.ticket.proofs.Words.{word_fails}
 
 -- a name is known by its first byte
 by_first : (a b : Kind) → get_or (kind_line a) 0 0 ≡ get_or (kind_line b) 0 0 → a ≡ b
@@ -20,10 +19,6 @@ some_bytes Dummy = lib.Dec.lit< tt
 
 pub kinds_apart : (a b : Kind) → Unit {0} → Unit {0} → (rest : List ℕ) → kind_line a ≡ kind_line b ++ rest → a ≡ b
 kinds_apart a b ga gb rest e = by_first a b (ap (λ l. get_or l 0 0) e ∙ get_or_append_left (kind_line b) rest 0 0 (some_bytes b))
-
--- no name begins so
-pub kind_none : (xs : List ℕ) → ((a : Kind) → 0 < length xs → get_or xs 0 0 ≡ get_or (kind_line a) 0 0 → ⊥) → WrongWord (λ _. Unit {0}) kind_line xs 0
-kind_none xs differs = word_fails (λ _. Unit {0}) kind_line xs 0 (omega arith) Sealed tt refl (λ b g. omega arith) (λ b g same. (some_bytes b, differs b))
 
 -- a name begins so and goes wrong later
 pub kind_fails : (a : Kind) (xs : List ℕ) (k : ℕ) → 0 < length xs → get_or xs 0 0 ≡ get_or (kind_line a) 0 0 → WrongWord {A = Unit {0}} (λ _. Unit {0}) (λ _. kind_line a) xs k → WrongWord (λ _. Unit {0}) kind_line xs k

@@ -1,9 +1,10 @@
 -- Numbers of one or two digits.
-use Rattle.std.proofs.Common.{◌≡◌, ℕ, ◌+◌, ◌*◌, ◌/◌, ◌%◌, ◌<◌, ◌≤◌, ltb, ◌⊎◌, List, [], ◌∷◌, ◌++◌, length, get_or, take, drop, sym, refl, ap, ◌∙◌, inl, inr, ⊎_elim, arith, lit<, length-append}
-use Rattle.std.proofs.lemmas.List.{take_more, drop_more, get_or_append_left, get_or-take}
+use Rattle.std.proofs.Common.{◌≡◌, ℕ, ◌+◌, ◌*◌, ◌/◌, ◌%◌, ◌<◌, ◌≤◌, ltb, ◌⊎◌, List, [], ◌∷◌, ◌++◌, length, get_or, take, sym, refl, ap, ◌∙◌, inl, inr, ⊎_elim, Some, None, arith, lit<, length-append}
+use Rattle.std.proofs.lemmas.List.{take_more, get_or_append_left, get_or-take}
 use Rattle.std.proofs.lemmas.Bool.{cases_lt, cond-true, cond-false, lt-ltb, le-ltb}
 use Rattle.ticket.specs.Texts.{number_line}
-use Rattle.ticket.specs.Pieces.{WrongWord, GoodNumber}
+use Rattle.std.proofs.lemmas.Bool.Decides.{nat_tests}
+use Rattle.ticket.specs.Pieces.{WrongWord, Fails, GoodNumber, decimal_value, leading_value}
 use Rattle.ticket.proofs.Words.{word_fails}
 
 one_digit : (n : ℕ) → n < 10 → number_line n ≡ (48 + n) ∷ 10 ∷ []
@@ -94,24 +95,33 @@ module _ (xs : List ℕ) (f : ℕ) (some : 1 ≤ f) (low : f ≤ 9) (here : 0 < 
       let one = sym (get_or-take 2 (number_line c) 1 0 (lit< tt)) ∙ ap (λ l. get_or l 1 0) alike ∙ get_or-take 2 xs 1 0 (lit< tt) in
       ⊎_elim (λ end. absurd (omega arith)) (λ digit. (omega (arith, digit.2), λ lt e. no_end lt (e ∙ digit.3))) line.second)
 
--- a number stands in a text
-pub stands_one : (text : List ℕ) (at f : ℕ) → f ≤ 9 → at + 1 < length text → get_or text at 0 ≡ 48 + f → get_or text (at + 1) 0 ≡ 10 → drop at text ≡ number_line f ++ drop (at + 2) text
-stands_one text at f low inside first end =
-    let next : at + 1 + 1 ≡ at + 2 = omega arith in
-    drop_more text at 0 (omega arith)
-    ∙ ap (λ l. get_or text at 0 ∷ l) (drop_more text (at + 1) 0 inside ∙ ap (λ k. get_or text (at + 1) 0 ∷ drop k text) next)
-    ∙ (λ i. first i ∷ end i ∷ drop (at + 2) text)
-    ∙ ap (λ l. l ++ drop (at + 2) text) (sym (one_digit f (omega arith)))
+-- a number fails after its first digit, and after its second
+module _ (xs mid : List ℕ) (f : ℕ) (some : 1 ≤ f) (low : f ≤ 9) (first : xs ≡ (48 + f) ∷ mid) where
+  here : 0 < length xs
+  here = omega (arith, ap length first)
 
-pub stands_two : (text : List ℕ) (at f s : ℕ) → 1 ≤ f → s ≤ 9 → at + 2 < length text → get_or text at 0 ≡ 48 + f → get_or text (at + 1) 0 ≡ 48 + s → get_or text (at + 2) 0 ≡ 10 → drop at text ≡ number_line (10 * f + s) ++ drop (at + 3) text
-stands_two text at f s some small inside first second end =
-    let n : ℕ = 10 * f + s in
-    let tens : 48 + f ≡ 48 + n / 10 = omega arith in
-    let units : 48 + s ≡ 48 + n % 10 = omega arith in
-    let two : at + 1 + 1 ≡ at + 2 = omega arith in
-    let three : at + 2 + 1 ≡ at + 3 = omega arith in
-    drop_more text at 0 (omega arith)
-    ∙ ap (λ l. get_or text at 0 ∷ l) (drop_more text (at + 1) 0 (omega arith) ∙ ap (λ k. get_or text (at + 1) 0 ∷ drop k text) two
-    ∙ ap (λ l. get_or text (at + 1) 0 ∷ l) (drop_more text (at + 2) 0 inside ∙ ap (λ k. get_or text (at + 2) 0 ∷ drop k text) three))
-    ∙ (λ i. (first ∙ tens) i ∷ (second ∙ units) i ∷ end i ∷ drop (at + 3) text)
-    ∙ ap (λ l. l ++ drop (at + 3) text) (sym (two_digits n (omega arith)))
+  pub fails_after_one : (0 < length mid → get_or mid 0 0 ≡ 10 → ⊥) → (0 < length mid → 48 ≤ get_or mid 0 0 → get_or mid 0 0 ≤ 57 → ⊥) → Fails GoodNumber number_line xs (length mid)
+  fails_after_one no_end no_digit =
+      let size = ap length first in
+      let second : get_or xs 1 0 ≡ get_or mid 0 0 = ap (λ l. get_or l 1 0) first in
+      (1, omega arith, number_after_one xs f some low here (ap (λ l. get_or l 0 0) first) (λ lt e. no_end (omega arith) (sym second ∙ e)) (λ lt above below. no_digit (omega arith) (omega arith) (omega arith)))
+
+  pub fails_after_two : (s : ℕ) (later : List ℕ) → s ≤ 9 → mid ≡ (48 + s) ∷ later → (0 < length later → get_or later 0 0 ≡ 10 → ⊥) → Fails GoodNumber number_line xs (length later)
+  fails_after_two s later small second no_end =
+      let both = first ∙ ap (λ l. (48 + f) ∷ l) second in
+      let size = ap length both in
+      let third : get_or xs 2 0 ≡ get_or later 0 0 = ap (λ l. get_or l 2 0) both in
+      (2, omega arith, number_after_two xs f some low here (ap (λ l. get_or l 0 0) first) s small (omega arith) (ap (λ l. get_or l 1 0) both) (λ lt e. no_end (omega arith) (sym third ∙ e)))
+
+-- the digits' values
+pub decimal_is : (b v : ℕ) → Some v ≡ decimal_value b → (b ≡ 48 + v) × (v ≤ 9)
+decimal_is b v e = grind (arith, nat_tests)
+
+pub decimal_none : (b : ℕ) → None ≡ decimal_value b → 48 ≤ b → b ≤ 57 → ⊥
+decimal_none b e low high = grind (arith, nat_tests)
+
+pub leading_is : (b v : ℕ) → Some v ≡ leading_value b → (b ≡ 48 + v) × ((1 ≤ v) × (v ≤ 9))
+leading_is b v e = grind (arith, nat_tests)
+
+pub leading_none : (b : ℕ) → None ≡ leading_value b → 49 ≤ b → b ≤ 57 → ⊥
+leading_none b e low high = grind (arith, nat_tests)

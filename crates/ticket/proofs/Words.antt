@@ -1,11 +1,9 @@
 -- Words that stand in a text, and where they fail.
-use Rattle.std.proofs.Common.{◌≡◌, ℕ, ◌+◌, ◌<◌, ◌≤◌, List, ◌++◌, length, get_or, take, drop, sym, ap, ◌∙◌, ap₂, add-zero, arith, length-append}
-use Rattle.std.proofs.lemmas.List.{get_or-drop, take-append-drop, take_all, drop-drop, take-take, take-append-le, length-take-le, get_or-take, get_or_append_left}
-use Rattle.ticket.specs.Pieces.{WrongWord, Stands}
-
--- the first byte from a place on
-pub first_at : (text : List ℕ) (at : ℕ) → get_or (drop at text) 0 0 ≡ get_or text at 0
-first_at text at = get_or-drop at text 0 0 ∙ ap (λ k. get_or text k 0) (add-zero at)
+use Rattle.std.proofs.Common.{◌≡◌, ℕ, zero, suc, ◌+◌, ◌<◌, ◌≤◌, Bool, true, false, not, List, [], ◌∷◌, ◌++◌, length, get_or, take, drop, codes, Some, None, Option, Ok, Err, Result, IsSome, unwrap_or, is_ok, Bor, sym, refl, ap, ◌∙◌, arith, length-append}
+use Rattle.std.specs.Option.{option_map, option_eq}
+use Rattle.std.proofs.lemmas.List.{take-append-drop, take-take, take-append-le, length-take-le, get_or-take, get_or_append_left}
+use Rattle.ticket.specs.declared.reader.Wrong.{Wrong}
+use Rattle.ticket.specs.Pieces.{WrongWord, LiteralRead}
 
 -- the byte at k of a list that goes on after k
 front_byte : (xs rest : List ℕ) (k : ℕ) → k < length xs → get_or (take (k + 1) xs ++ rest) k 0 ≡ get_or xs k 0
@@ -43,9 +41,26 @@ word_fails Good word xs k within a good same reach differs = record {
       (differs b gb front).1 (omega arith) (ap (λ l. get_or l k 0) e ∙ get_or_append_left (word b) ys 0 k inside);
 }
 
--- a word that was found byte by byte
-pub stands_all : (text word : List ℕ) (at n : ℕ) → n ≡ length word → at + n ≤ length text → take n (drop at text) ≡ take n word → Stands text at word (at + n)
-stands_all text word at n all within same = (
-  within,
-  sym (take-append-drop n (drop at text)) ∙ ap₂ ◌++◌ (same ∙ take_all n word (omega arith)) (drop-drop n at text),
-)
+-- a list with a first byte
+pub front : (xs : List ℕ) → 0 < length xs → xs ≡ get_or xs 0 0 ∷ drop 1 xs
+front [] some = absurd (omega arith)
+front (x ∷ xs) some = refl
+
+-- a byte that is looked up and is another
+pub other_byte : (eq : ℕ → ℕ → Bool) → ((x : ℕ) → eq x x ≡ true) → (found : Option (Bor ℕ)) (wanted : Bor ℕ) → IsSome found → unwrap_or (option_map (λ x. x.now) found) 0 ≡ wanted.now → not (option_eq (λ x y. eq x.now y.now) found (Some wanted)) ≡ true → ⊥
+other_byte eq same None wanted some is differs = cc
+other_byte eq same (Some x) wanted some is differs =
+    let alike : eq x.now wanted.now ≡ true = ap (λ y. eq y wanted.now) is ∙ same wanted.now in
+    let no : false ≡ true = sym (ap not alike) ∙ differs in
+    cc
+
+-- a word of one byte fails at once
+pub one_byte : (b : ℕ) (xs : List ℕ) (k : ℕ) → WrongWord {A = Unit {0}} (λ _. Unit {0}) (λ _. b ∷ []) xs k → k ≡ 0
+one_byte b xs zero wrong = refl
+one_byte b [] (suc k) wrong = absurd (let within = wrong.within in omega arith)
+one_byte b (x ∷ xs) (suc k) wrong = absurd (wrong.none tt tt xs (ap (λ l. get_or l 0 0 ∷ xs) (sym wrong.begins.3)))
+
+-- a line that does not end here
+pub no_end : (before later : List ℕ) (read : Result Unit Wrong) → LiteralRead before (codes "\n") later read → false ≡ is_ok read → (later ≡ before) × (0 < length before → get_or before 0 0 ≡ 10 → ⊥)
+no_end before later (Ok done) e failed = absurd cc
+no_end before later (Err wrong) e failed = (e.1, λ some end. e.0.2.none tt tt (drop 1 before) (front before some ∙ ap (λ b. b ∷ drop 1 before) end))

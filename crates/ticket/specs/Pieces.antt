@@ -1,7 +1,9 @@
--- Reading one piece of a text: one word out of several, from a place on.
-use Rattle.std.specs.Prelude.{◌≡◌, ℕ, ◌+◌, ◌<◌, ◌≤◌, Bool, true, false, List, ◌++◌, length, take, drop, Some, None, Ok, Err, Option, Result, ◌≢◌, slice_index}
-use Rattle.ticket.specs.declared.job.Kind.{Kind}
-use Rattle.ticket.specs.Texts.{kind_line, number_line, hex_digit, hex_text}
+-- Reading one piece of a text: one word out of several, from the front of what is left.
+use Rattle.std.specs.Prelude.{◌≡◌, ℕ, ◌+◌, ◌-◌, ◌<◌, ◌≤◌, ◌==◌, ◌&&◌, cond, nat_le, List, [], ◌∷◌, ◌++◌, length, take, Some, None, Ok, Err, Option, Result, ◌≢◌, slice_index}
+use Rattle.strip.specs.Hex.{hex_text}
+use Rattle.tree.specs.declared.kind.Kind.{Kind}
+use Rattle.ticket.specs.declared.reader.Wrong.{Wrong}
+use Rattle.ticket.specs.Texts.{kind_line, number_line}
 
 -- Bytes that begin with none of the good words, and go wrong at a place within one.
 pub record WrongWord {A : Type 0} (Good : A → Type 0) (word : A → List ℕ) (xs : List ℕ) (k : ℕ) : Type 0 where
@@ -17,47 +19,46 @@ GoodNumber n = (1 ≤ n) × (n ≤ 99)
 abbrev pub GoodSeed : List ℕ → Type 0
 GoodSeed seed = (length seed ≡ 32) × ((i : ℕ) → slice_index seed i < 256)
 
--- a word stands in a text from a place to another
-abbrev pub Stands : List ℕ → ℕ → List ℕ → ℕ → Type 0
-Stands text at word next = (next ≤ length text) × (drop at text ≡ word ++ drop next text)
+-- with so many bytes left, none of the words goes on
+abbrev pub Fails : {A : Type 0} → (A → Type 0) → (A → List ℕ) → List ℕ → ℕ → Type 0
+Fails Good word xs left = (k : ℕ) × (k + left ≡ length xs) × WrongWord Good word xs k
 
--- the place where none of the words goes on
-abbrev pub Fails : {A : Type 0} → (A → Type 0) → (A → List ℕ) → List ℕ → ℕ → ℕ → Type 0
-Fails Good word text at p = (k : ℕ) × (p ≡ at + k) × WrongWord Good word (drop at text) k
+-- What is left before and after a piece is read. A word that fails is not read in part.
+abbrev pub LiteralRead : List ℕ → List ℕ → List ℕ → Result Unit Wrong → Type 0
+LiteralRead before word later (Ok done) = before ≡ word ++ later
+LiteralRead before word later (Err wrong) =
+    Fails {A = Unit {0}} (λ _. Unit {0}) (λ _. word) before wrong.left × (later ≡ before)
 
-abbrev pub LiteralRead : List ℕ → ℕ → List ℕ → Result ℕ ℕ → Type 0
-LiteralRead text at word (Ok next) = Stands text at word next
-LiteralRead text at word (Err p) = Fails {A = Unit {0}} (λ _. Unit {0}) (λ _. word) text at p
+abbrev pub KindRead : List ℕ → List ℕ → Result Kind Wrong → Type 0
+KindRead before later (Ok kind) = before ≡ kind_line kind ++ later
+KindRead before later (Err wrong) = Fails (λ _. Unit {0}) kind_line before wrong.left
 
-abbrev pub KindRead : List ℕ → ℕ → Result (Kind × ℕ) ℕ → Type 0
-KindRead text at (Ok found) = Stands text at (kind_line found.0) found.1
-KindRead text at (Err p) = Fails (λ _. Unit {0}) kind_line text at p
+abbrev pub NumberRead : List ℕ → List ℕ → Result ℕ Wrong → Type 0
+NumberRead before later (Ok n) = GoodNumber n × (before ≡ number_line n ++ later)
+NumberRead before later (Err wrong) = Fails GoodNumber number_line before wrong.left
 
-abbrev pub NumberRead : List ℕ → ℕ → Result (ℕ × ℕ) ℕ → Type 0
-NumberRead text at (Ok found) = GoodNumber found.0 × Stands text at (number_line found.0) found.1
-NumberRead text at (Err p) = Fails GoodNumber number_line text at p
+abbrev pub SeedRead : List ℕ → List ℕ → List ℕ → Result Unit Wrong → Type 0
+SeedRead before later seed (Ok done) = GoodSeed seed × (before ≡ hex_text seed ++ later)
+SeedRead before later seed (Err wrong) = Fails GoodSeed hex_text before wrong.left
 
--- the seed's bytes come to the front of the scratch; what lies behind them stays
-abbrev pub SeedRead : List ℕ → ℕ → List ℕ → List ℕ → Result ℕ ℕ → Type 0
-SeedRead text at before later (Ok next) =
-    GoodSeed (take 32 later) × Stands text at (hex_text (take 32 later)) next × (drop 32 later ≡ drop 32 before)
-SeedRead text at before later (Err p) = Fails GoodSeed hex_text text at p × (drop 32 later ≡ drop 32 before)
+abbrev pub EndRead : List ℕ → Result Unit Wrong → Type 0
+EndRead bytes (Ok done) = bytes ≡ []
+EndRead bytes (Err wrong) = (bytes ≢ []) × (wrong.left ≡ length bytes)
 
--- a decimal digit at a place, or no such byte there
-abbrev pub DigitAt : List ℕ → ℕ → Option ℕ → Type 0
-DigitAt text p (Some v) = (p < length text) × (slice_index text p ≡ 48 + v) × (v ≤ 9)
-DigitAt text p None = p < length text → 48 ≤ slice_index text p → slice_index text p ≤ 57 → ⊥
+-- The next byte means a value, or there is none that does; then nothing is read.
+abbrev pub NextRead : {T : Type 0} → (ℕ → Option T → Type 0) → List ℕ → List ℕ → Result T Wrong → Type 0
+NextRead Means before later (Ok value) = (b : ℕ) × (before ≡ b ∷ later) × Means b (Some value)
+NextRead Means before later (Err wrong) =
+    (wrong.left ≡ length before) × (later ≡ before) × ((b : ℕ) (rest : List ℕ) → before ≡ b ∷ rest → Means b None)
 
-abbrev pub EndsLine : List ℕ → ℕ → Bool → Type 0
-EndsLine text p true = (p < length text) × (slice_index text p ≡ 10)
-EndsLine text p false = p < length text → slice_index text p ≢ 10
+-- a decimal digit, and one with which a number begins
+abbrev pub decimal_value : ℕ → Option ℕ
+decimal_value b = cond (nat_le 48 b && nat_le b 57) (Some (b - 48)) None
 
--- the maker whose name begins with the byte at a place, or none
-abbrev pub KindAt : List ℕ → ℕ → Option Kind → Type 0
-KindAt text p (Some kind) = (p < length text) × (slice_index text p ≡ slice_index (kind_line kind) 0)
-KindAt text p None = (kind : Kind) → p < length text → slice_index text p ≢ slice_index (kind_line kind) 0
+abbrev pub leading_value : ℕ → Option ℕ
+leading_value b = cond (b == 48) None (decimal_value b)
 
--- a hex digit at a place, or no such byte there
-abbrev pub HexAt : List ℕ → ℕ → Option ℕ → Type 0
-HexAt text p (Some v) = (p < length text) × (slice_index text p ≡ hex_digit v) × (v < 16)
-HexAt text p None = (v : ℕ) → v < 16 → p < length text → slice_index text p ≢ hex_digit v
+-- the maker whose name begins with a byte, or none
+abbrev pub Begins : ℕ → Option Kind → Type 0
+Begins b (Some kind) = b ≡ slice_index (kind_line kind) 0
+Begins b None = (kind : Kind) → b ≢ slice_index (kind_line kind) 0

@@ -1,8 +1,10 @@
 -- What reading a ticket answers, said of the set of all tickets.
-use Rattle.std.specs.Prelude.{◌≡◌, ℕ, ◌+◌, ◌<◌, ◌≤◌, cond, List, [], ◌∷◌, ◌++◌, length, take, drop, replicate, Ok, Err, Result, ◌==◌, nat_lt}
+use Rattle.std.specs.Prelude.{◌≡◌, ℕ, ◌+◌, ◌<◌, ◌≤◌, cond, List, [], ◌∷◌, ◌++◌, length, take, drop, replicate, codes, Ok, Err, Result, ◌==◌, nat_lt}
+use Rattle.tree.specs.Refusals.{spaced}
 use Rattle.ticket.specs.declared.job.Job.{Job}
 use Rattle.ticket.specs.declared.job.Refusal.{Refusal}
 use Rattle.ticket.specs.declared.job.Refusal.TheVariants.{Short, NoTicket}
+use Rattle.ticket.specs.declared.reader.Wrong.{Wrong}
 use Rattle.ticket.specs.Texts.{Ticket, Sayable, ticket_text}
 
 -- bytes that are a ticket
@@ -17,18 +19,25 @@ pub record WrongAt (Is : List ℕ → Type 0) (bs : List ℕ) (p : ℕ) : Type 0
   pub stops : p < length bs → (rest : List ℕ) → Is (take (p + 1) bs ++ rest) → ⊥
   pub lacks : p ≡ length bs → Is bs → ⊥
 
+-- the same, by how many bytes are left from that place on
+abbrev pub WrongLeft : (List ℕ → Type 0) → List ℕ → ℕ → Type 0
+WrongLeft Is bs left = (p : ℕ) × (p + left ≡ length bs) × WrongAt Is bs p
+
 -- line (from 1) and column (from 0) after some bytes
 abbrev pub spot_after : List ℕ → ℕ → ℕ → ℕ × ℕ
 spot_after [] line column = (line, column)
 spot_after (x ∷ xs) line column = cond (x == 10) (spot_after xs (line + 1) 0) (spot_after xs line (column + 1))
 
--- Reading the fields: what the text says, and its seed at the front of the scratch; or where it goes wrong.
-abbrev pub FieldsRead : List ℕ → List ℕ → List ℕ → Result Job ℕ → Type 0
-FieldsRead bs before later (Ok job) =
-    ((t : Ticket) × Sayable t × (bs ≡ ticket_text t)
-    × (job.kind ≡ t.kind) × (job.height ≡ t.height) × (job.subtree ≡ t.subtree) × (take 32 later ≡ t.seed))
-    × (drop 32 later ≡ drop 32 before)
-FieldsRead bs before later (Err p) = WrongAt IsTicket bs p × (drop 32 later ≡ drop 32 before)
+-- bytes are a ticket that says what a job asks for, and its seed
+abbrev pub Says : List ℕ → Job → List ℕ → Type 0
+Says bs job seed =
+    (t : Ticket) × Sayable t × (bs ≡ ticket_text t)
+    × (job.kind ≡ t.kind) × (job.height ≡ t.height) × (job.subtree ≡ t.subtree) × (seed ≡ t.seed)
+
+-- Reading the fields: what the text says, and its seed; or how many bytes are left where it goes wrong.
+abbrev pub FieldsRead : List ℕ → List ℕ → Result Job Wrong → Type 0
+FieldsRead bs seed (Ok job) = Says bs job seed
+FieldsRead bs seed (Err wrong) = WrongLeft IsTicket bs wrong.left
 
 -- A scratch of 32 bytes or more is left with its first 32 bytes zero and the rest as it was.
 abbrev pub wiped : List ℕ → List ℕ
@@ -38,19 +47,14 @@ abbrev pub left_in : List ℕ → List ℕ
 left_in scratch = cond (nat_lt (length scratch) 32) scratch (wiped scratch)
 
 -- Unpacking a ticket: what it says, and its seed in the source; or where it goes wrong, and the source as it was.
-abbrev pub Unpacks : List ℕ → List ℕ → List ℕ → Result Job ℕ → Type 0
-Unpacks bs before later (Ok job) =
-    (t : Ticket) × Sayable t × (bs ≡ ticket_text t)
-    × (job.kind ≡ t.kind) × (job.height ≡ t.height) × (job.subtree ≡ t.subtree) × (later ≡ t.seed)
-Unpacks bs before later (Err p) = WrongAt IsTicket bs p × (later ≡ before)
+abbrev pub Unpacks : List ℕ → List ℕ → List ℕ → Result Job Wrong → Type 0
+Unpacks bs before later (Ok job) = Says bs job later
+Unpacks bs before later (Err wrong) = WrongLeft IsTicket bs wrong.left × (later ≡ before)
 
 -- Reading a ticket: what it says, and its seed in the source; or, with the source as it was, that the scratch
 -- is too short, which comes first, or where the text goes wrong.
 abbrev pub Answers : List ℕ → List ℕ → List ℕ → List ℕ → Result Job Refusal → Type 0
-Answers bs scratch before later (Ok job) =
-    (32 ≤ length scratch)
-    × ((t : Ticket) × Sayable t × (bs ≡ ticket_text t)
-    × (job.kind ≡ t.kind) × (job.height ≡ t.height) × (job.subtree ≡ t.subtree) × (later ≡ t.seed))
+Answers bs scratch before later (Ok job) = (32 ≤ length scratch) × Says bs job later
 Answers bs scratch before later (Err (Short needed)) = (length scratch < 32) × (needed ≡ 32) × (later ≡ before)
 Answers bs scratch before later (Err (NoTicket spot)) =
     (32 ≤ length scratch)
@@ -61,3 +65,7 @@ Answers bs scratch before later (Err (NoTicket spot)) =
 abbrev pub numbered : Refusal → ℕ × List ℕ
 numbered (Short needed) = (7, needed ∷ [])
 numbered (NoTicket spot) = (15, spot.line ∷ spot.column ∷ [])
+
+-- a refusal in print: its number and its values
+abbrev pub refusal_text : Refusal → List ℕ
+refusal_text r = codes "refused" ++ spaced ((numbered r).0 ∷ (numbered r).1)

@@ -1,8 +1,8 @@
 -- Job tickets: what one says, and its text.
 use Rattle.std.specs.Prelude.{◌≡◌, ℕ, ◌+◌, ◌/◌, ◌%◌, ◌<◌, ◌≤◌, cond, List, [], ◌∷◌, ◌++◌, length, codes, nat_lt, slice_index}
-use Rattle.std.specs.List.{flat_map}
-use Rattle.ticket.specs.declared.job.Kind.{Kind}
-use Rattle.ticket.specs.declared.job.Kind.TheVariants.{Sealed, Dummy}
+use Rattle.strip.specs.Hex.{hex_text}
+use Rattle.tree.specs.Kinds.{kind_name}
+use Rattle.tree.specs.declared.kind.Kind.{Kind}
 
 -- What a ticket says: a kind of maker, two heights and a seed.
 pub record Ticket : Type 0 where
@@ -19,19 +19,11 @@ pub record Sayable (t : Ticket) : Type 0 where
   pub bytes : (i : ℕ) → slice_index t.seed i < 256
 
 abbrev pub kind_line : Kind → List ℕ
-kind_line Sealed = codes "sealed\n"
-kind_line Dummy = codes "dummy\n"
+kind_line kind = kind_name kind ++ codes "\n"
 
 -- a number below 100 in decimal, and the line's end
 abbrev pub number_line : ℕ → List ℕ
 number_line n = cond (nat_lt n 10) ((48 + n) ∷ 10 ∷ []) ((48 + n / 10) ∷ (48 + n % 10) ∷ 10 ∷ [])
-
--- a hex digit, 0 to 9 and a to f, and bytes in hex
-abbrev pub hex_digit : ℕ → ℕ
-hex_digit v = cond (nat_lt v 10) (48 + v) (87 + v)
-
-abbrev pub hex_text : List ℕ → List ℕ
-hex_text bytes = flat_map (λ b. hex_digit (b / 16) ∷ hex_digit (b % 16) ∷ []) bytes
 
 -- The text of a ticket: four lines.
 abbrev pub ticket_text : Ticket → List ℕ

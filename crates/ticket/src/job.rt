@@ -1,39 +1,38 @@
-ghost use Rattle.std.specs.Prelude.{◌≡◌};
-ghost use Rattle.ticket.specs.Reading.{numbered};
+ghost use Rattle.std.specs.Prelude.{◌≡◌, Some};
+ghost use Rattle.ticket.specs.Reading.{numbered, refusal_text};
 
-// The makers that a ticket can ask for.
-#[derive(Clone, Copy, Debug, PartialEq)]
-pub enum Kind {
-    Sealed,
-    Dummy,
-}
+use std::error::Error;
+use std::fmt;
+// A ticket asks for a kind of maker as a strip does, so the kinds are the tree's.
+pub use tree::kind::Kind;
 
-// What a ticket asks for, but for its seed. The heights are not judged yet.
-#[derive(Clone, Copy, Debug, PartialEq)]
+/// What a ticket asks for, but for its seed. The heights are not judged yet.
+#[derive(Clone, Copy, Debug, PartialEq, Eq)]
 pub struct Job {
     pub kind: Kind,
     pub height: u32,
     pub subtree: u32,
 }
 
-// A place in a text: the line counts from 1, the column from 0.
-#[derive(Clone, Copy, Debug, PartialEq)]
+/// A place in a text: the line counts from 1, the column from 0.
+#[derive(Clone, Copy, Debug, PartialEq, Eq)]
 pub struct Spot {
     pub line: usize,
     pub column: usize,
 }
 
-// Why a ticket is not read.
-#[derive(Clone, Copy, Debug, PartialEq)]
+/// Why a ticket is not read.
+#[derive(Clone, Copy, Debug, PartialEq, Eq)]
 pub enum Refusal {
-    // The scratch is too short; it should have had so many bytes.
+    /// The scratch is too short; it should have had so many bytes.
     Short(usize),
-    // The text is no ticket; this byte is wrong or missing.
+    /// The text is no ticket; this byte is wrong or missing.
     NoTicket(Spot),
 }
 
 impl Refusal {
-    // The number by which a refusal is known outside.
+    /// The number by which a refusal is known outside. It is one fact of a refusal, not the refusal in
+    /// another form, so it is no conversion.
     pub fn number(self) -> u8
         ensures { result ≡ (numbered self).0 }
     {
@@ -43,3 +42,20 @@ impl Refusal {
         }
     }
 }
+
+// Printed as the programs answer it: the refusal's number and its values.
+impl fmt::Display for Refusal {
+    ghost output = { λ refusal. Some (refusal_text refusal) };
+
+    fn fmt<W: fmt::Write>(&self, f: &mut fmt::Formatter<W>) -> fmt::Result {
+        let number = self.number();
+        match self {
+            Refusal::Short(needed) => write!(f, "refused {number} {needed}"),
+            Refusal::NoTicket(Spot { line, column }) => {
+                write!(f, "refused {number} {line} {column}")
+            }
+        }
+    }
+}
+
+impl Error for Refusal {}

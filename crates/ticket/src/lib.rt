@@ -1,7 +1,8 @@
+//! Job tickets: four lines of text that name a maker, two heights and a secret seed.
+
 #![tactic(auto)]
 
-// Job tickets: four lines of text that name a maker, two heights and a secret seed.
 pub mod job;
-mod pieces;
 mod read;
+mod reader;
 pub mod ticket;

@@ -1,27 +1,24 @@
-ghost use Rattle.std.specs.Prelude.{◌≡◌, ◌≤◌, length, take};
+ghost use Rattle.std.specs.Prelude.{◌≡◌};
 ghost use Rattle.ticket.specs.Reading.{FieldsRead, spot_after};
 
 use crate::job::{Job, Spot};
-use crate::pieces::{kind, literal, number, seed};
+use crate::reader::{Reader, SEED_LENGTH, Wrong};
 
-// Reads the fields of a ticket, its seed into the scratch; or answers the place of the first byte that no
-// ticket has there.
-pub(crate) fn fields(text: &[u8], scratch: &mut [u8]) -> Result<Job, usize>
-    requires { 32 ≤ length scratch.old }
-    ensures { FieldsRead text.now scratch.old scratch.new result }
+/// Reads the fields of a ticket, and its seed; or finds the first byte that no ticket has there.
+pub(crate) fn fields(text: &[u8], seed: &mut [u8; SEED_LENGTH]) -> Result<Job, Wrong>
+    ensures { FieldsRead text.now seed.new result }
 {
-    let maker = literal(text, 0, b"maker ")?;
-    let (kind, line) = kind(text, maker)?;
-    let tall = literal(text, line, b"height ")?;
-    let (height, line) = number(text, tall)?;
-    let small = literal(text, line, b"subtree ")?;
-    let (subtree, line) = number(text, small)?;
-    let secret = literal(text, line, b"seed ")?;
-    let last = seed(text, secret, scratch)?;
-    let end = literal(text, last, b"\n")?;
-    if end < text.len() {
-        return Err(end);
-    }
+    let mut reader = Reader::new(text);
+    reader.literal(b"maker ")?;
+    let kind = reader.kind()?;
+    reader.literal(b"height ")?;
+    let height = reader.number()?;
+    reader.literal(b"subtree ")?;
+    let subtree = reader.number()?;
+    reader.literal(b"seed ")?;
+    reader.seed(seed)?;
+    reader.literal(b"\n")?;
+    reader.end()?;
     Ok(Job {
         kind,
         height,
@@ -29,15 +26,14 @@ pub(crate) fn fields(text: &[u8], scratch: &mut [u8]) -> Result<Job, usize>
     })
 }
 
-// The line and the column of a place.
-pub(crate) fn spot(text: &[u8], place: usize) -> Spot
-    requires { place ≤ length text.now }
-    ensures { (result.line, result.column) ≡ spot_after (take place text.now) 1 0 }
+/// The line and the column that come after some bytes.
+pub(crate) fn spot(before: &[u8]) -> Spot
+    ensures { (result.line, result.column) ≡ spot_after before.now 1 0 }
 {
     let mut line = 1;
     let mut column = 0;
-    for i in 0..place {
-        if text[i] == b'\n' {
+    for byte in before {
+        if *byte == b'\n' {
             line += 1;
             column = 0;
         } else {

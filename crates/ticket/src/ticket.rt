@@ -1,47 +1,53 @@
-ghost use Rattle.std.specs.Prelude.{◌≡◌, ◌≤◌, length, drop};
-ghost use Rattle.ticket.specs.Reading.{wiped, left_in, Unpacks, Answers};
+ghost use Rattle.std.specs.Prelude.{◌≡◌, replicate};
+ghost use Rattle.ticket.specs.Reading.{left_in, Unpacks, Answers};
 
 use crate::job::{Job, Refusal};
-use crate::pieces::SEED_LENGTH;
 use crate::read::{fields, spot};
+use crate::reader::{SEED_LENGTH, Wrong};
 use tree::seed::SeedSource;
 
-// Holds a scratch of 32 bytes or more and wipes the first 32, where a seed was unpacked, when it goes.
-struct Wipe<'a>(&'a mut [u8]);
+/// Holds the bytes where a seed is unpacked, and wipes them when it goes.
+struct Wipe<'a>(&'a mut [u8; SEED_LENGTH]);
 
 impl Drop for Wipe<'_> {
     fn drop(self)
-        requires { 32 ≤ length self.0.now }
-        ensures { self.exit.0.now ≡ wiped self.entry.0.now }
+        ensures { self.exit.0.now ≡ replicate 32 0 }
     {
-        self.0[0..SEED_LENGTH].fill(0);
+        self.0.fill(0);
         let Wipe(_) = self;
     }
 }
 
-// Reads a job ticket: answers what it asks for and puts its seed into the source. The seed is unpacked in
-// the scratch, which is wiped on every way out.
+/// Reads a job ticket: answers what it asks for and puts its seed into the source. The seed is unpacked in
+/// the scratch, which is wiped on every way out.
 pub fn read(text: &[u8], scratch: &mut [u8], source: &mut SeedSource) -> Result<Job, Refusal>
     ensures scratch { scratch.new ≡ left_in scratch.old }
     ensures answer { Answers text.now scratch.old source.old.seed source.new.seed result }
 {
-    if scratch.len() < SEED_LENGTH {
+    let Some(seed) = scratch.first_chunk_mut() else {
         return Err(Refusal::Short(SEED_LENGTH));
-    }
-    let guard = Wipe(scratch);
-    match unpack(text, guard.0, source) {
-        Ok(job) => Ok(job),
-        Err(place) => Err(Refusal::NoTicket(spot(text, place))),
-    }
+    };
+    unpack(text, seed, source).map_err(|wrong| {
+        let before = &text[..text.len() - wrong.left];
+        Refusal::NoTicket(spot(before))
+    })
 }
 
-// Reads a ticket through the scratch, which keeps its seed; or answers the place where it goes wrong.
-fn unpack(text: &[u8], scratch: &mut [u8], source: &mut SeedSource) -> Result<Job, usize>
-    requires { 32 ≤ length scratch.old }
-    ensures scratch { drop 32 scratch.new ≡ drop 32 scratch.old }
+/// Reads a ticket through an array, which is wiped on every way out; or finds where it goes wrong.
+fn unpack(text: &[u8], seed: &mut [u8; SEED_LENGTH], source: &mut SeedSource) -> Result<Job, Wrong>
+    ensures wiped { seed.new ≡ replicate 32 0 }
     ensures answer { Unpacks text.now source.old.seed source.new.seed result }
 {
-    let job = fields(text, scratch)?;
-    let _ = source.reseed(scratch);
+    let guard = Wipe(seed);
+    reseed(text, guard.0, source)
+}
+
+/// The same, but the array keeps the seed.
+fn reseed(text: &[u8], seed: &mut [u8; SEED_LENGTH], source: &mut SeedSource) -> Result<Job, Wrong>
+    ensures { Unpacks text.now source.old.seed source.new.seed result }
+{
+    let job = fields(text, seed)?;
+    // a seed's bytes are never too few
+    let _ = source.reseed(seed);
     Ok(job)
 }

@@ -1,5 +1,5 @@
 -- What one unit does to a treehash and its world, and what units in a row do.
-use Rattle.std.proofs.Common.{◌≡◌, ℕ, ◌+◌, ◌-◌, ◌/◌, ◌%◌, ◌^◌, ◌<◌, ◌≤◌, true, false, cond, List, length, get_or, set, Some, sym, refl, ap, ◌∙◌, subst, ap₂, ⊎_elim, arith}
+use Rattle.std.proofs.Common.{◌≡◌, ℕ, ◌+◌, ◌-◌, ◌/◌, ◌%◌, ◌^◌, ◌<◌, ◌≤◌, true, false, cond, List, length, get_or, set, Some, Ok, sym, refl, ap, ◌∙◌, subst, ap₂, ⊎_elim, arith}
 use Rattle.std.proofs.lemmas.Bool.{cases_lt}
 use Rattle.growth.specs.Order.{ends, Reached, newest, join_due, joined}
 use Rattle.growth.specs.Places.{place, stacked_below, stack_size, Room}
@@ -11,7 +11,6 @@ use Rattle.growth.proofs.Counting.{joined_join, joined_leaf}
 use Rattle.growth.proofs.Writing.{grew_join, grew_leaf, grew_none, grew_then}
 use Rattle.tree.specs.Meaning.{Meaning, Meter, Wraps, after}
 use Rattle.tree.specs.Supply.{Supply, presence}
-use Rattle.tree.specs.declared.fault.Presence.TheVariants.{Present}
 use Rattle.tree.proofs.Metering.{after_after, after_none}
 use Rattle.traversal.specs.declared.plot.Plot.{Plot}
 use Rattle.traversal.specs.declared.treehash.Treehash.{Treehash}
@@ -85,7 +84,7 @@ standing_join plot g h standing due leaves joins up stacked =
     )
 
 module _ {N : Type 0} (plot : Plot) where
-  pub advanced_leaf : Legal plot → (table later : List N) (m m' : Meaning N) (k k' : Meter) (s s' : Supply) (g h : Treehash) (token : List ℕ) (node : N) → Standing plot g → Unfinished plot g → join_due g.leaves g.newest ≡ false → Room (layout plot) (depth plot) (length table) → presence s g.leaves ≡ Present → s.token g.leaves ≡ Some token → node ≡ m.leaf g.leaves token → later ≡ set table (place (layout plot) 0 g.leaves) node → m' ≡ m → k' ≡ after 1 0 k → s' ≡ s → h.leaves ≡ g.leaves + 1 → h.joins ≡ g.joins → h.newest ≡ 0 → Advanced plot (world table m k s) g 1 0 (world later m' k' s') h
+  pub advanced_leaf : Legal plot → (table later : List N) (m m' : Meaning N) (k k' : Meter) (s s' : Supply) (g h : Treehash) (token : List ℕ) (node : N) → Standing plot g → Unfinished plot g → join_due g.leaves g.newest ≡ false → Room (layout plot) (depth plot) (length table) → presence s g.leaves ≡ Ok tt → s.token g.leaves ≡ Some token → node ≡ m.leaf g.leaves token → later ≡ set table (place (layout plot) 0 g.leaves) node → m' ≡ m → k' ≡ after 1 0 k → s' ≡ s → h.leaves ≡ g.leaves + 1 → h.joins ≡ g.joins → h.newest ≡ 0 → Advanced plot (world table m k s) g 1 0 (world later m' k' s') h
   advanced_leaf legal table later m m' k k' s s' g h token node standing more due room there is made put keeps counts stays leaves joins newest =
       let l = g.leaves in
       let p = g.newest in

@@ -1,23 +1,17 @@
 -- The layout of a draft fits a table of the right size.
-use Rattle.std.proofs.Common.{◌≡◌, ℕ, zero, suc, ◌+◌, ◌-◌, ◌*◌, ◌%◌, ◌^◌, ◌≤◌, true, leb, None, Ok, sym, ap, ◌∙◌, ap₂, ⊎_elim, add-mul, pow-suc, div-add-mod', mul-add, arith, lit<}
+use Rattle.std.proofs.Common.{◌≡◌, ℕ, zero, suc, ◌+◌, ◌-◌, ◌*◌, ◌%◌, ◌^◌, ◌≤◌, true, leb, sym, ap, ◌∙◌, ⊎_elim, add-mul, pow-suc, div-add-mod', mul-add, arith, lit<}
 use Rattle.std.proofs.lemmas.Nat.{mul-le, shl_whole}
-use Rattle.std.proofs.lemmas.Bool.{and_parts, leb-true, cases_lt, cond-true, cond-false}
-use Rattle.growth.specs.Order.{join_due}
+use Rattle.std.proofs.lemmas.Bool.{and_parts, leb-true, cases_lt}
 use Rattle.growth.proofs.Ends.{twice_pow}
 use Rattle.growth.proofs.Counting.{joined_most}
 use Rattle.tree.specs.Numbers.{legal_height}
-use Rattle.tree.specs.Geometry.{levels, subtree_cells, existing_start, following_start}
+use Rattle.tree.specs.Geometry.{Shaped, levels, subtree_cells, existing_start, following_start}
 use Rattle.tree.proofs.Rows.{in_a_row, subtree_facts, some_level}
 use Rattle.growth.specs.Places.{Room}
 use Rattle.traversal.specs.declared.treehash.Treehash.{Treehash}
 use Rattle.traversal.specs.Plots.{layout, depth, Legal}
-use Rattle.traversal.specs.Shapes.{Shaped, draft_plot}
-use Rattle.traversal.specs.declared.treehash.Made.{Made}
-use Rattle.traversal.specs.declared.treehash.Made.TheVariants.{Leaf, Join}
-use Rattle.traversal.specs.declared.state.Draft.{Draft}
-use Rattle.traversal.specs.Worlds.{World}
-use Rattle.traversal.specs.Units.{Standing, UnitMade}
-use Rattle.traversal.specs.Calls.{lacking, DraftUnit}
+use Rattle.traversal.specs.Shapes.{draft_plot}
+use Rattle.traversal.specs.Units.{Standing}
 
 pub height_facts : (H : ℕ) → legal_height H ≡ true → (1 ≤ H) × (H ≤ 20)
 height_facts H e = let both = and_parts (leb 1 H) (leb H 20) e in (leb-true 1 H both.0, leb-true H 20 both.1)
@@ -35,9 +29,6 @@ module _ (H h n : ℕ) (shaped : Shaped H h n) where
 
   pub tail_starts : following_start H h 1 ≡ 1 + levels H h * subtree_cells h
   tail_starts = let same : levels H h + (1 - 1) ≡ levels H h = omega arith in ap (λ k. 1 + k * subtree_cells h) same
-
-  pub plot_is : (rows tail : ℕ) → rows ≡ 1 → tail ≡ 1 + levels H h * subtree_cells h → record { lowest = 0; top = H; subtree = h; rows = rows; tail = tail } ≡ draft_plot H h
-  plot_is rows tail e f = ap₂ (λ r t. record { lowest = 0; top = H; subtree = h; rows = r; tail = t }) (e ∙ sym rows_start) (f ∙ sym tail_starts)
 
   pub draft_legal : Legal (draft_plot H h)
   draft_legal =
@@ -82,15 +73,3 @@ module _ (H h n : ℕ) (shaped : Shaped H h n) where
 
   pub all_units : (2 * 2 ^ H) % 2 ^ 64 ≡ 2 ^ (H + 1)
   all_units = shl_whole 2 2 H 64 (lit< tt) (omega (arith, (height_facts H shaped.0).1)) ∙ sym (twice_pow H)
-
--- One unit of a draft.
-module _ {N : Type 0} (d e : Draft) (v w : World N) (height : e.height ≡ d.height) (subtree : e.subtree ≡ d.subtree) where
-  pub unit_taken : (made : Made) → UnitMade (draft_plot d.height d.subtree) v d.hash (Ok made) w e.hash → DraftUnit d v (Ok made) e w
-  unit_taken Leaf (due, advanced) = (
-    cond-false (join_due d.hash.leaves d.hash.newest) None _ due ∙ ap (lacking d.hash.leaves) (advanced.present d.hash.leaves (omega arith) (omega (arith, advanced.leaves_made))),
-    record { height = height; subtree = subtree; advanced = advanced },
-  )
-  unit_taken Join (due, advanced) = (
-    cond-true (join_due d.hash.leaves d.hash.newest) None _ due,
-    record { height = height; subtree = subtree; advanced = advanced },
-  )

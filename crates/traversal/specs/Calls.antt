@@ -5,9 +5,7 @@ use Rattle.tree.specs.Numbers.{legal_height}
 use Rattle.tree.specs.Geometry.{legal_subtree, table_size}
 use Rattle.tree.specs.Refusals.{first_refusal}
 use Rattle.tree.specs.Supply.{Supply, presence}
-use Rattle.tree.specs.declared.fault.Presence.{Presence}
-use Rattle.tree.specs.declared.fault.Presence.TheVariants.{Present, Absent}
-use Rattle.traversal.specs.declared.treehash.Made.{Made}
+use Rattle.tree.specs.declared.fault.Cause.{Cause}
 use Rattle.traversal.specs.declared.fault.DraftFault.{DraftFault}
 use Rattle.traversal.specs.declared.refusal.Layer.TheVariants.{Draft as in_draft}
 use Rattle.traversal.specs.declared.refusal.Refusal.{Refusal}
@@ -18,7 +16,7 @@ use Rattle.traversal.specs.declared.outcome.Incomplete.{Incomplete}
 use Rattle.traversal.specs.declared.outcome.Totals.{Totals}
 use Rattle.traversal.specs.Shapes.{draft_plot}
 use Rattle.traversal.specs.Worlds.{World}
-use Rattle.traversal.specs.Units.{pair_of, Advanced}
+use Rattle.traversal.specs.Units.{next_unit, Advanced}
 
 -- the leaves and the joins that a draft has made, and together
 abbrev pub made_so_far : Draft → ℕ × ℕ
@@ -29,7 +27,7 @@ units d = d.hash.leaves + d.hash.joins
 
 -- the whole tree has so many nodes
 abbrev pub units_in_all : Draft → ℕ
-units_in_all d = 2 ^ (d.height + 1) - 1
+units_in_all d = 2 ^ (d.shape.height + 1) - 1
 
 -- What begin checks, in this order.
 abbrev pub begin_checks : ℕ → ℕ → ℕ → ℕ → List (Bool × Refusal)
@@ -37,30 +35,34 @@ begin_checks H h cells size =
     (legal_height H, Height H) ∷ (legal_subtree H h, Subtree h)
     ∷ (nat_le (table_size H h) cells, Table (table_size H h)) ∷ (nat_le (2 ^ H) size, Source size) ∷ []
 
+-- A table of so many cells is long enough for a shape, or too short.
+abbrev pub HasRoom : ℕ → ℕ → Result Unit Refusal → Type 0
+HasRoom needed cells (Ok _) = needed ≤ cells
+HasRoom needed cells (Err r) = (cells < needed) × (r ≡ Table needed)
+
 -- A new draft has made nothing.
 abbrev pub Begun : ℕ → ℕ → ℕ → Supply → Result Draft Refusal → Type 0
 Begun H h cells s (Ok d) =
-    (first_refusal (begin_checks H h cells s.size) ≡ None) × (d.height ≡ H) × (d.subtree ≡ h) × (made_so_far d ≡ (0, 0))
+    (first_refusal (begin_checks H h cells s.size) ≡ None) × (d.shape.height ≡ H) × (d.shape.subtree ≡ h) × (made_so_far d ≡ (0, 0))
 Begun H h cells s (Err r) = first_refusal (begin_checks H h cells s.size) ≡ Some r
 
 -- A draft made so many leaves and joins more.
 pub record Drafted {N : Type 0} (d : Draft) (v : World N) (leaves joins : ℕ) (e : Draft) (w : World N) : Type 0 where
-  pub height : e.height ≡ d.height
-  pub subtree : e.subtree ≡ d.subtree
-  pub advanced : Advanced (draft_plot d.height d.subtree) v d.hash leaves joins w e.hash
+  pub shape : e.shape ≡ d.shape
+  pub advanced : Advanced (draft_plot d.shape.height d.shape.subtree) v d.hash leaves joins w e.hash
 
 -- the refusal of a token that is not there
-abbrev pub lacking : ℕ → Presence → Option Refusal
-lacking n Present = None
-lacking n (Absent why) = Some (Token (record { number = n; cause = why; layer = in_draft }))
+abbrev pub lacking : ℕ → Result Unit Cause → Option Refusal
+lacking n (Ok _) = None
+lacking n (Err why) = Some (Token (record { number = n; cause = why; layer = in_draft }))
 
 -- what the next unit lacks: a leaf its token if that is missing, a join nothing
 abbrev pub unit_lacks : Draft → Supply → Option Refusal
 unit_lacks d s = cond (join_due d.hash.leaves d.hash.newest) None (lacking d.hash.leaves (presence s d.hash.leaves))
 
 -- One unit is made, or it lacks its token and nothing has changed.
-abbrev pub DraftUnit : {N : Type 0} → Draft → World N → Result Made DraftFault → Draft → World N → Type 0
-DraftUnit d v (Ok made) e w = (unit_lacks d v.supply ≡ None) × Drafted d v (pair_of made).0 (pair_of made).1 e w
+abbrev pub DraftUnit : {N : Type 0} → Draft → World N → Result Unit DraftFault → Draft → World N → Type 0
+DraftUnit d v (Ok _) e w = (unit_lacks d v.supply ≡ None) × Drafted d v (next_unit d.hash).0 (next_unit d.hash).1 e w
 DraftUnit d v (Err f) e w =
     (unit_lacks d v.supply ≡ Some (Token (record { number = f.unit.missing.number; cause = f.unit.missing.cause; layer = in_draft })))
     × (e ≡ d) × (w ≡ v)
@@ -79,7 +81,7 @@ pub record WentOn {N : Type 0} (d : Draft) (v : World N) (budget leaves joins : 
 -- What a step checks, in this order: the table, and the first unit's token if a unit is to be made.
 abbrev pub step_refusal : Draft → ℕ → Supply → ℕ → Option Refusal
 step_refusal d cells s budget =
-    cond (nat_lt cells (table_size d.height d.subtree)) (Some (Table (table_size d.height d.subtree)))
+    cond (nat_lt cells (table_size d.shape.height d.shape.subtree)) (Some (Table (table_size d.shape.height d.shape.subtree)))
     (cond (nat_lt 0 budget && nat_lt (units d) (units_in_all d)) (unit_lacks d s) None)
 
 -- A step makes units as long as it can and answers how many, or is refused and changes nothing.
@@ -95,14 +97,14 @@ incomplete_number = 5
 
 abbrev pub Turned : Draft → Result Run Incomplete → Type 0
 Turned d (Ok r) =
-    (units d ≡ units_in_all d) × (r.height ≡ d.height) × (r.subtree ≡ d.subtree)
+    (units d ≡ units_in_all d) × (r.shape ≡ d.shape)
     × (r.pulls ≡ 0) × (r.drafted ≡ made_so_far d) × (r.pulled ≡ (0, 0))
 Turned d (Err b) = (units d < units_in_all d) × (b.draft ≡ d) × (b.missing ≡ units_in_all d - units d)
 
 -- The root is in the first cell.
 abbrev pub Rooted : {N : Type 0} → Run → List N → Result N Refusal → Type 0
-Rooted run table (Ok x) = (table_size run.height run.subtree ≤ length table) × ((y : _) → x ≡ slice_index_or table 0 y)
-Rooted run table (Err r) = (length table < table_size run.height run.subtree) × (r ≡ Table (table_size run.height run.subtree))
+Rooted run table (Ok x) = (table_size run.shape.height run.shape.subtree ≤ length table) × ((y : _) → x ≡ slice_index_or table 0 y)
+Rooted run table (Err r) = (length table < table_size run.shape.height run.shape.subtree) × (r ≡ Table (table_size run.shape.height run.shape.subtree))
 
 abbrev pub totals : Run → Totals
 totals run = record { pulls = run.pulls; drafted = run.drafted; pulled = run.pulled }

@@ -45,4 +45,15 @@ Lies plot t x Root = (owns_cell plot t x ≡ true) × (own_cell plot t x ≡ 0)
 Lies plot t x (Subtree start offset) =
     (owns_cell plot t x ≡ true) × (own_cell plot t x ≡ start + offset)
     × (offset < subtree_cells plot.subtree) × (start + subtree_cells plot.subtree ≤ plot.tail)
-Lies plot t x Stack = owns_cell plot t x ≡ false
+Lies plot t x (Stack tail) = (owns_cell plot t x ≡ false) × (tail ≡ plot.tail)
+
+-- its cell where so many nodes are on the stack, and how many it adds to them
+abbrev pub cell_of : Home → ℕ → ℕ
+cell_of Root stacked = 0
+cell_of (Subtree start offset) stacked = start + offset
+cell_of (Stack tail) stacked = tail + stacked
+
+abbrev pub on_stack : Home → ℕ
+on_stack Root = 0
+on_stack (Subtree start offset) = 0
+on_stack (Stack tail) = 1

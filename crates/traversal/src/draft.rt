@@ -1,21 +1,23 @@
 ghost use Rattle.std.specs.Prelude.{◌≡◌, ◌+◌, ◌-◌, ◌^◌, ◌<◌, ◌≤◌, length};
 ghost use Rattle.traversal.specs.Shapes.{draft_plot};
-ghost use Rattle.traversal.specs.Worlds.{world};
+ghost use Rattle.traversal.specs.Worlds.{world_of, SameLoans};
 ghost use Rattle.traversal.specs.Calls.{units, units_in_all, made_so_far, Begun, DraftUnit, WentOn, Stepped, Turned};
 
 use crate::fault::DraftFault;
+use crate::growing::Growing;
+use crate::lent::Lent;
 use crate::outcome::Incomplete;
 use crate::plot::{Plot, section_cells};
-use crate::refusal::Refusal;
+use crate::refusal::{Refusal, check_room};
 use crate::state::{Draft, Run};
-use crate::treehash::{Made, Treehash};
-use tree::geometry::size;
+use crate::treehash::Treehash;
+use tree::geometry::Shape;
 use tree::maker::Maker;
 use tree::source::Source;
 
 impl Draft {
-    // Begins the initialisation of a traversal: of the tree of a height over the tokens of a source, with
-    // subtrees of another height, in a table of cells. Touches no cell.
+    /// Begins the initialization of a traversal: of the tree of a height over the tokens of a source, with
+    /// subtrees of another height, in a table of cells. Touches no cell.
     pub fn begin<N, S: Source>(
         height: u32,
         subtree: u32,
@@ -24,52 +26,40 @@ impl Draft {
     ) -> Result<Draft, Refusal>
         ensures { Begun height subtree (length table.now) (S.supply source.now) result }
     {
-        let cells = size(height, subtree)?;
-        if table.len() < cells {
-            return Err(Refusal::Table(cells));
-        }
+        let shape = Shape::new(height, subtree)?;
+        check_room(table.len(), shape)?;
         let tokens = source.size();
         if tokens < 1 << height {
             return Err(Refusal::Source(tokens));
         }
-        let hash = Treehash {
-            leaves: 0,
-            joins: 0,
-            newest: 0,
-            stacked: 0,
-        };
         Ok(Draft {
-            height,
-            subtree,
-            cells,
-            hash,
+            shape,
+            hash: Treehash::default(),
         })
     }
 
-    // Runs the treehash on: makes nodes until so many are made, the draft is complete or the next token is
-    // missing; answers the leaves and the joins that it made.
+    /// Runs the treehash on: makes nodes until so many are made, the draft is complete or the next token is
+    /// missing; answers the leaves and the joins that it made.
     pub fn step<M: Maker, S: Source>(
         &mut self,
-        table: &mut [M::Node],
-        maker: &mut M,
-        source: &mut S,
+        lent: &mut Lent<M, S>,
         budget: u64,
     ) -> Result<(u64, u64), Refusal>
-        ensures { Stepped self.old (world table.old (M.meaning maker.old) (M.meter maker.old) (S.supply source.old)) budget result self.new (world table.new (M.meaning maker.new) (M.meter maker.new) (S.supply source.new)) }
+        ensures stepped { Stepped self.old (world_of M.meaning M.meter S.supply lent.old) budget result self.new (world_of M.meaning M.meter S.supply lent.new) }
+        ensures same_loans { SameLoans lent.old lent.new }
     {
-        if table.len() < self.cells {
-            return Err(Refusal::Table(self.cells));
-        }
-        if budget == 0 || self.missing() == 0 {
+        check_room(lent.table.len(), self.shape)?;
+        let units = budget.min(self.missing());
+        if units == 0 {
             return Ok((0, 0));
         }
-        let first = self.unit(table, maker, source)?;
-        let (leaf, join) = first.pair();
-        let (leaves, joins) = self.go_on(table, maker, source, budget - 1);
-        Ok((leaf + leaves, join + joins))
+        let before = self.hash;
+        self.unit(lent)?;
+        self.go_on(lent, units - 1);
+        Ok(self.hash.since(before))
     }
 
-    // Ends the initialisation: turns a complete draft into a run.
+    /// Ends the initialization: turns a complete draft into a run.
     pub fn turn(self) -> Result<Run, Incomplete>
         ensures { Turned self result }
     {
@@ -80,99 +70,77 @@ impl Draft {
                 missing,
             });
         }
-        let Draft {
-            height,
-            subtree,
-            cells,
-            hash,
-        } = self;
+        let Draft { shape, hash } = self;
         Ok(Run {
-            height,
-            subtree,
-            cells,
+            shape,
             pulls: 0,
-            drafted: hash.pair(),
+            drafted: hash.made(),
             pulled: (0, 0),
         })
     }
 
-    // Gives a draft up; answers the leaves and the joins that it made.
+    /// Gives a draft up; answers the leaves and the joins that it made.
     pub fn abandon(self) -> (u64, u64)
         ensures { result ≡ made_so_far self }
     {
-        let Draft {
-            height: _,
-            subtree: _,
-            cells: _,
-            hash,
-        } = self;
-        hash.pair()
+        let Draft { shape: _, hash } = self;
+        hash.made()
     }
 
-    // How many units are still to be made.
+    /// How many units are still to be made.
     fn missing(&self) -> u64
         ensures { result ≡ units_in_all self.now - units self.now }
     {
-        let (leaves, joins) = self.hash.pair();
-        (2 << self.height) - 1 - leaves - joins
+        let (leaves, joins) = self.hash.made();
+        (2 << self.shape.height) - 1 - leaves - joins
     }
 
-    // Where the draft's nodes lie.
+    /// Where the draft's nodes lie.
     fn plot(&self) -> Plot
-        ensures { result ≡ draft_plot self.now.height self.now.subtree }
+        ensures { result ≡ draft_plot self.now.shape.height self.now.shape.subtree }
     {
-        let levels = (self.height / self.subtree) as usize;
-        let tail = 1 + levels * section_cells(self.subtree);
+        let Shape {
+            height,
+            subtree,
+            cells: _,
+        } = self.shape;
+        let levels = (height / subtree) as usize;
         Plot {
             lowest: 0,
-            top: self.height,
-            subtree: self.subtree,
+            top: height,
+            subtree,
             rows: 1,
-            tail,
+            tail: 1 + levels * section_cells(subtree),
         }
     }
 
-    // One unit.
-    fn unit<M: Maker, S: Source>(
-        &mut self,
-        table: &mut [M::Node],
-        maker: &mut M,
-        source: &mut S,
-    ) -> Result<Made, DraftFault>
-        requires room { self.old.cells ≤ length table.old }
+    /// One unit. That the table has room is asked here and in `go_on`, since a table is lent only for a call.
+    fn unit<M: Maker, S: Source>(&mut self, lent: &mut Lent<M, S>) -> Result<(), DraftFault>
+        requires room { self.old.shape.cells ≤ length lent.old.table.now }
         requires unfinished { units self.old < units_in_all self.old }
-        ensures { DraftUnit self.old (world table.old (M.meaning maker.old) (M.meter maker.old) (S.supply source.old)) result self.new (world table.new (M.meaning maker.new) (M.meter maker.new) (S.supply source.new)) }
+        ensures unit { DraftUnit self.old (world_of M.meaning M.meter S.supply lent.old) result self.new (world_of M.meaning M.meter S.supply lent.new) }
+        ensures same_loans { SameLoans lent.old lent.new }
     {
-        let mut hash = self.hash;
-        let made = hash.unit(self.plot(), table, maker, source)?;
-        self.hash = hash;
-        Ok(made)
+        let mut tree = Growing {
+            plot: self.plot(),
+            hash: self.hash,
+        };
+        tree.unit(lent)?;
+        self.hash = tree.hash;
+        Ok(())
     }
 
-    // Makes units as long as it can, and not more than the budget; answers the leaves and the joins.
-    fn go_on<M: Maker, S: Source>(
-        &mut self,
-        table: &mut [M::Node],
-        maker: &mut M,
-        source: &mut S,
-        budget: u64,
-    ) -> (u64, u64)
-        requires room { self.old.cells ≤ length table.old }
-        ensures { WentOn self.old (world table.old (M.meaning maker.old) (M.meter maker.old) (S.supply source.old)) budget result.0 result.1 self.new (world table.new (M.meaning maker.new) (M.meter maker.new) (S.supply source.new)) }
+    /// Makes so many units, unless a token is missing before.
+    fn go_on<M: Maker, S: Source>(&mut self, lent: &mut Lent<M, S>, count: u64)
+        requires room { self.old.shape.cells ≤ length lent.old.table.now }
+        requires count { units self.old + count ≤ units_in_all self.old }
+        ensures went_on { WentOn self.old (world_of M.meaning M.meter S.supply lent.old) count (self.new.hash.leaves - self.old.hash.leaves) (self.new.hash.joins - self.old.hash.joins) self.new (world_of M.meaning M.meter S.supply lent.new) }
+        ensures same_loans { SameLoans lent.old lent.new }
     {
-        let mut leaves = 0;
-        let mut joins = 0;
-        while leaves + joins < budget {
-            if self.missing() == 0 {
-                return (leaves, joins);
+        for _ in 0..count {
+            if self.unit(lent).is_err() {
+                break;
             }
-            let Ok(made) = self.unit(table, maker, source) else {
-                return (leaves, joins);
-            };
-            let (leaf, join) = made.pair();
-            leaves += leaf;
-            joins += join;
         }
-        (leaves, joins)
     }
 }

@@ -2,8 +2,8 @@ ghost use Rattle.std.specs.Prelude.{◌≡◌};
 
 use tree::fault::Missing;
 
-// A unit of a treehash lacked its token.
-#[derive(Clone, Copy)]
+/// A unit of a treehash lacked its token. Each layer has a type of its own, so that it can add what it knows.
+#[derive(Clone, Copy, Debug, PartialEq, Eq)]
 pub struct UnitFault {
     pub missing: Missing,
 }
@@ -16,8 +16,8 @@ impl From<Missing> for UnitFault {
     }
 }
 
-// A unit of a draft lacked its token.
-#[derive(Clone, Copy)]
+/// A unit of a draft lacked its token.
+#[derive(Clone, Copy, Debug, PartialEq, Eq)]
 pub struct DraftFault {
     pub unit: UnitFault,
 }

@@ -1,9 +1,12 @@
+//! Fractal Merkle tree traversal: from a source of tokens to the root, in steps that can be budgeted and
+//! interrupted, on a table of nodes that the caller lends.
+
 #![tactic(auto)]
 
-// Fractal Merkle tree traversal: from a source of tokens to the root, in steps that can be budgeted and
-// interrupted, on a table of nodes that the caller lends.
 pub mod draft;
 pub mod fault;
+mod growing;
+pub mod lent;
 pub mod outcome;
 mod plot;
 pub mod refusal;

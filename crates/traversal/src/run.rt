@@ -2,28 +2,24 @@ ghost use Rattle.std.specs.Prelude.{◌≡◌};
 ghost use Rattle.traversal.specs.Calls.{Rooted, totals};
 
 use crate::outcome::Totals;
-use crate::refusal::Refusal;
+use crate::refusal::{Refusal, check_room};
 use crate::state::Run;
 
 impl Run {
-    // The root of the tree, from the table.
+    /// The root of the tree, from the table.
     pub fn root<N: Copy>(&self, table: &[N]) -> Result<N, Refusal>
         ensures { Rooted self.now table.now result }
     {
-        if table.len() < self.cells {
-            return Err(Refusal::Table(self.cells));
-        }
+        check_room(table.len(), self.shape)?;
         Ok(table[0])
     }
 
-    // Ends the run; answers what it came to.
+    /// Ends the run; answers what it came to.
     pub fn close(self) -> Totals
         ensures { result ≡ totals self }
     {
         let Run {
-            height: _,
-            subtree: _,
-            cells: _,
+            shape: _,
             pulls,
             drafted,
             pulled,

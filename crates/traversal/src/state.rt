@@ -1,31 +1,24 @@
-ghost use Rattle.std.specs.Prelude.{◌≡◌};
-ghost use Rattle.traversal.specs.Shapes.{Shaped, draft_plot};
+ghost use Rattle.traversal.specs.Shapes.{draft_plot};
 ghost use Rattle.traversal.specs.Units.{Standing};
 
 use crate::treehash::Treehash;
+use tree::geometry::Shape;
 
-// The initialisation of a fractal traversal: a treehash over all leaves, which keeps the root and the first
-// subtree of each level. It is plain numbers; the nodes lie in the caller's table. It is turned into a run
-// when it is complete, or abandoned.
+/// The initialization of a fractal traversal: a treehash over all leaves, which keeps the root and the first
+/// subtree of each level. It is plain numbers; the nodes lie in the caller's table. It is turned into a run
+/// when it is complete, or abandoned.
 pub struct Draft {
-    pub(crate) height: u32,
-    pub(crate) subtree: u32,
-    // How many cells the table has at least.
-    pub(crate) cells: usize,
+    pub(crate) shape: Shape,
     pub(crate) hash: Treehash,
-    ghost shaped: { Shaped height subtree cells },
-    ghost standing: { Standing (draft_plot height subtree) hash },
+    ghost standing: { Standing (draft_plot shape.height shape.subtree) hash },
 }
 
-// An initialised fractal traversal: how far it has come, in plain numbers. It is closed at the end.
+/// An initialized fractal traversal: how far it has come, in plain numbers. It is closed at the end.
 pub struct Run {
-    pub(crate) height: u32,
-    pub(crate) subtree: u32,
-    // How many cells the table has at least.
-    pub(crate) cells: usize,
+    pub(crate) shape: Shape,
     pub(crate) pulls: u64,
-    // The leaves and the joins that the draft made, and those that the pulls made.
+    /// The leaves and the joins that the draft made.
     pub(crate) drafted: (u64, u64),
+    /// The leaves and the joins that the pulls made.
     pub(crate) pulled: (u64, u64),
-    ghost shaped: { Shaped height subtree cells },
 }

@@ -2,7 +2,7 @@ ghost use Rattle.std.specs.Prelude.{◌≡◌, ◌+◌, ◌-◌, ◌<◌, ◌≤
 
 use growth::stack::Stack;
 
-// Puts a node on the stack of the first `len` cells of a slice; answers how many there are then.
+/// Puts a node on the stack of the first `len` cells of a slice; answers how many there are then.
 pub(crate) fn push_on<N: Copy>(cells: &mut [N], len: usize, node: N) -> usize
     requires { len < length cells.old }
     ensures len { result ≡ len + 1 }
@@ -13,7 +13,7 @@ pub(crate) fn push_on<N: Copy>(cells: &mut [N], len: usize, node: N) -> usize
     stack.len
 }
 
-// The top node of the stack of the first `len` cells of a slice.
+/// The top node of the stack of the first `len` cells of a slice.
 pub(crate) fn top_of<N: Copy>(cells: &mut [N], len: usize) -> N
     requires { (0 < len) × (len ≤ length cells.old) }
     ensures value { result ≡ slice_index_or cells.old (len - 1) result }

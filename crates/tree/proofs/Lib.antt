@@ -3,4 +3,6 @@ pub mod Folding
 pub mod Climbing
 pub mod Nodes
 pub mod Rows
-pub mod Supplying
+pub mod Comparing
+pub mod Intervals
+pub mod Listing

@@ -1,5 +1,5 @@
 -- Nodes as bytes and back.
-use Rattle.std.proofs.Common.{◌≡◌, ℕ, suc, ◌+◌, ◌*◌, ◌/◌, eqb, ltb, List, [], ◌∷◌, ◌++◌, length, drop, Some, None, sym, refl, ap, ◌∙◌, ap₂, mul_comm, add-mul, one-mul, zero-mul, add-one, arith, length-append}
+use Rattle.std.proofs.Common.{◌≡◌, ℕ, suc, ◌+◌, ◌*◌, ◌/◌, eqb, ltb, List, [], ◌∷◌, ◌++◌, length, drop, Some, None, Option, sym, refl, ap, ◌∙◌, ap₂, mul_comm, add-mul, one-mul, zero-mul, add-one, arith, length-append}
 use Rattle.std.proofs.lemmas.List.{append_assoc, append-nil, take_at, drop_at}
 use Rattle.std.proofs.lemmas.Bool.{cond-true, cond-false, eq-eqb, le-ltb}
 use Rattle.std.proofs.lemmas.Nat.{div-mul-add}
@@ -56,3 +56,7 @@ module _ {N : Type 0} (m : Meaning N) (ok : Lawful m) where
       ap₂ (folded m number) is_leaf is_path
       ∙ folded_path_bytes number (m.leaf number (tokens number)) (path_of m tokens H number)
       ∙ ap Some (path_leads_to_root m tokens H number lt)
+
+  -- what answers where the bytes lead
+  pub answers_root : (number : ℕ) (start : N) (bytes : List ℕ) (r : Option N) → r ≡ folded m number start bytes → FoldsToRoot m number start bytes r
+  answers_root number start bytes r is tokens H lt is_leaf is_path = is ∙ folds_to_root number start bytes tokens H lt is_leaf is_path

@@ -2,7 +2,9 @@
 use Rattle.std.proofs.Common.{◌≡◌, ℕ, ◌+◌, ◌-◌, ◌*◌, ◌/◌, ◌%◌, ◌^◌, ◌<◌, ◌≤◌, true, cond, ◌&&◌, eqb, leb, ap, ◌∙◌, ap₂, ⊎_elim, mul_comm, add-mul, one-mul, mul-zero, zero-mul, mul-add, arith, lit<}
 use Rattle.std.proofs.lemmas.Nat.{div-add-mod', shl_whole, pow-add}
 use Rattle.std.proofs.lemmas.Bool.{and_parts, leb-true, le-leb, lt-leb, eqb-true, cond-true, cond-false, cases_lt}
-use Rattle.tree.specs.Geometry.{legal_subtree, levels, subtree_cells, table_size, InARow}
+use Rattle.std.specs.Prelude.{None, Ok}
+use Rattle.tree.specs.Refusals.{first_refusal}
+use Rattle.tree.specs.Geometry.{legal_subtree, levels, subtree_cells, table_size, InARow, Shaped, shape_checks, Sizes}
 
 -- one section of s cells more
 one_more : (a s : ℕ) → (a + 1) * s ≡ a * s + s
@@ -101,3 +103,9 @@ sized_one H h each is one =
     let row : (2 * L - 1) * each ≡ (2 * L - 1) * subtree_cells h = ap (λ n. (2 * L - 1) * n) is in
     let rest = cond-false (leb 2 L) ((L - 2) + h * ((L - 1) * (L - 2) / 2)) 0 (lt-leb 2 L one) in
     omega arith
+
+-- a shape tells the size of its table, whose sections lie in a row
+pub sizes_of : (H h n : ℕ) → first_refusal (shape_checks H h) ≡ None → Shaped H h n → Sizes H h (Ok n)
+sizes_of H h n passed (tall, low, cells) =
+    let some = some_level H h (leb-true 1 H (and_parts _ _ tall).0) low in
+    (passed, cells, in_a_row H h some)

@@ -18,7 +18,7 @@ fits f t e =
     let low : t ≤ 20 = mathlib.Core.Logic.⊎_elim (λ lt. let tall = pow_mono {i = 21} {j = t} lt in absurd (omega arith)) (λ le. le) (cases_lt 20 t) in
     (low, within, eqb-true _ _ parts.0)
 
--- the test as the code makes it, with n = 2^t at hand
+-- the same test where n = 2^t is at hand and divides f
 pub whole_test : (f t n : ℕ) → n ≡ 2 ^ t → n ≤ 2 ^ 20 → f % n ≡ 0 → nat_le f (2 ^ 20 - n) ≡ aligned f t
 whole_test f t n e small zero =
     let at : f % 2 ^ t ≡ 0 = rw (← e) zero in

@@ -4,6 +4,8 @@ use Rattle.std.proofs.lemmas.Bool.{eqb-true}
 use Rattle.hashing.specs.Sha256.{sha256}
 use Rattle.hashing.proofs.Lengths.{length_sha256}
 use Rattle.tree.specs.Meaning.{Meaning}
+use Rattle.tree.specs.Kinds.{kind_byte, node_width}
+use Rattle.tree.specs.declared.kind.Kind.TheVariants.{Sealed}
 use Rattle.tree.specs.declared.digest.Digest.{Digest}
 
 abbrev pub digest_of : List ℕ → Digest
@@ -20,6 +22,6 @@ sealed_meaning = record {
   join = λ left right. digest_of (left.bytes ++ right.bytes);
   put = λ x. x.bytes;
   read = λ bytes. read_if bytes (length bytes == 32) refl;
-  kind = 1;
-  width = 32;
+  kind = kind_byte Sealed;
+  width = node_width Sealed;
 }

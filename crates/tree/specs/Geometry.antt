@@ -1,5 +1,5 @@
 -- A tree of height H in levels of subtrees of height h, and the table of cells that a traversal works on.
-use Rattle.std.specs.Prelude.{◌≡◌, ℕ, ◌+◌, ◌-◌, ◌*◌, ◌/◌, ◌%◌, ◌^◌, ◌≤◌, Bool, cond, ◌&&◌, List, [], ◌∷◌, Some, None, Ok, Err, Result, ◌==◌, nat_le}
+use Rattle.std.specs.Prelude.{◌≡◌, ℕ, ◌+◌, ◌-◌, ◌*◌, ◌/◌, ◌%◌, ◌^◌, ◌≤◌, Bool, true, cond, ◌&&◌, List, [], ◌∷◌, Some, None, Ok, Err, Result, ◌==◌, nat_le}
 use Rattle.tree.specs.Numbers.{legal_height}
 use Rattle.tree.specs.Refusals.{first_refusal}
 use Rattle.tree.specs.declared.refusal.Refusal.{Refusal}
@@ -37,6 +37,10 @@ abbrev pub table_size : ℕ → ℕ → ℕ
 table_size H h =
     1 + (2 * levels H h - 1) * subtree_cells h
     + cond (nat_le 2 (levels H h)) ((levels H h - 2) + h * ((levels H h - 1) * (levels H h - 2) / 2)) 0
+
+-- legal heights, and the size of the table for them
+abbrev pub Shaped : ℕ → ℕ → ℕ → Type 0
+Shaped H h n = (legal_height H ≡ true) × (legal_subtree H h ≡ true) × (n ≡ table_size H h)
 
 -- The sections lie one after another, without gap or overlap, and together are the table.
 pub record InARow (H h : ℕ) : Type 0 where

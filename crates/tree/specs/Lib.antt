@@ -1,11 +1,14 @@
 pub mod Meaning
 pub mod Tree
 pub mod Path
+pub mod Counting
 pub mod Numbers
+pub mod Kinds
 pub mod Spans
 pub mod Digests
 pub mod Refusals
 pub mod Geometry
+pub mod Shapes
 pub mod Supply
 pub mod Seeds
 pub mod Entries
@@ -13,3 +16,4 @@ pub mod Spanning
 pub mod Aligning
 pub mod Numbering
 pub mod Sealing
+pub mod Supplying

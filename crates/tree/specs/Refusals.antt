@@ -1,6 +1,8 @@
 -- What each refusal of the tree's calls is called, and which of several comes.
-use Rattle.std.specs.Prelude.{ℕ, Bool, cond, List, [], ◌∷◌, Some, None, Option}
+use Rattle.std.specs.Prelude.{ℕ, Bool, cond, List, [], ◌∷◌, ◌++◌, Some, None, Option, codes, decimal}
 use Rattle.tree.specs.declared.fault.TooShort.{TooShort}
+use Rattle.tree.specs.declared.fault.Cause.{Cause}
+use Rattle.tree.specs.declared.fault.Cause.TheVariants.{Torn, Beyond}
 use Rattle.tree.specs.declared.refusal.Refusal.{Refusal}
 use Rattle.tree.specs.declared.refusal.Refusal.TheVariants.{Height, Subtree}
 
@@ -12,6 +14,20 @@ numbered (Subtree h) = (2, h ∷ [])
 -- the same of a slice that is too short
 abbrev pub short_numbered : TooShort → ℕ × List ℕ
 short_numbered e = (7, e.needed ∷ [])
+
+-- each number after a blank
+abbrev pub spaced : List ℕ → List ℕ
+spaced [] = []
+spaced (n ∷ ns) = codes " " ++ (decimal n ++ spaced ns)
+
+-- a refusal in print: its number and its values
+abbrev pub refusal_text : Refusal → List ℕ
+refusal_text r = codes "refused" ++ spaced ((numbered r).0 ∷ (numbered r).1)
+
+-- the word for why a token is missing
+abbrev pub cause_text : Cause → List ℕ
+cause_text Torn = codes "torn"
+cause_text Beyond = codes "beyond"
 
 -- Checks in their order, each with the refusal of its failure: the first that fails.
 abbrev pub first_refusal : {R : Type 0} → List (Bool × R) → Option R

@@ -1,9 +1,12 @@
 -- Spans as the dummy maker's nodes.
-use Rattle.std.specs.Prelude.{◌≡◌, ℕ, ◌<◌, ◌≤◌, Bool, true, false, cond, List, [], ◌∷◌, ◌++◌, length, take, Some, None, ◌==◌, slice_index, refl}
-use Rattle.std.proofs.Common.{sym, ap, ap₂, ◌∙◌, ⊎_elim, arith, lit<, lit≤}
+use Rattle.std.specs.Prelude.{replicate, ◌&&◌, ◌≡◌, ℕ, ◌<◌, ◌≤◌, Bool, true, false, cond, List, [], ◌∷◌, ◌++◌, length, take, Some, None, ◌==◌, slice_index, refl}
+use Rattle.std.proofs.Common.{eqb, sym, ap, ap₂, ◌∙◌, ⊎_elim, arith, lit<, lit≤}
 use mathlib.Core.HLevel.{is_prop→PathP}
 use Rattle.std.proofs.Math.Bool.{Bool-set}
-use Rattle.std.proofs.lemmas.Bool.{both_ways, cases_Bool, cond-true, cond-false, and_parts, and_right, eqb-true, ne_eqb}
+use Rattle.std.proofs.lemmas.Bool.{both_ways, cases_Bool, cond-true, cond-false, and_right, ne_eqb}
+use Rattle.std.specs.Cmp.Lexicographic.{pointwise}
+use Rattle.std.proofs.lemmas.Slice.Eq.{slice_eq-Decides}
+use Rattle.std.proofs.lemmas.Bool.Decides.{Decides-eqb}
 use Rattle.tree.specs.Meaning.{Lawful, OneSpelling}
 use Rattle.tree.specs.Numbers.{number_at, aligned}
 use Rattle.tree.specs.Spans.{span_if, span, put_span, are_broken, read_span, dummy_meaning}
@@ -47,6 +50,16 @@ read_front (_ ∷ _ ∷ _ ∷ []) h = absurd (omega arith)
 read_front (_ ∷ _ ∷ _ ∷ _ ∷ []) h = absurd (omega arith)
 read_front (a ∷ b ∷ c ∷ d ∷ e ∷ rest) h = refl
 
+-- what holds of any five elements holds of a list of five
+pub with_five : (P : List ℕ → Type 0) → ((a b c d e : ℕ) → P (a ∷ b ∷ c ∷ d ∷ e ∷ [])) → (bs : List ℕ) → length bs ≡ 5 → P bs
+with_five P holds (a ∷ b ∷ c ∷ d ∷ e ∷ []) long = holds a b c d e
+with_five P holds [] long = absurd (omega arith)
+with_five P holds (_ ∷ []) long = absurd (omega arith)
+with_five P holds (_ ∷ _ ∷ []) long = absurd (omega arith)
+with_five P holds (_ ∷ _ ∷ _ ∷ []) long = absurd (omega arith)
+with_five P holds (_ ∷ _ ∷ _ ∷ _ ∷ []) long = absurd (omega arith)
+with_five P holds (_ ∷ _ ∷ _ ∷ _ ∷ _ ∷ _ ∷ rest) long = absurd (omega arith)
+
 read_put : (x : Span) → read_span (put_span x) ≡ Some x
 read_put Broken = refl
 read_put (Sound a) =
@@ -70,21 +83,25 @@ dummy_lawful = record {
   kind_fits = lit< tt;
 }
 
+-- the five comparisons with 255, from the left as from the right
+from_the_left : (p q r s t : Bool) → (p && (q && (r && (s && (t && true))))) ≡ (p && q && r && s && t)
+from_the_left false q r s t = refl
+from_the_left true false r s t = refl
+from_the_left true true false s t = refl
+from_the_left true true true false t = refl
+from_the_left true true true true false = refl
+from_the_left true true true true true = refl
+
+pub are_broken_as_equal : (bs : List ℕ) → length bs ≡ 5 → pointwise eqb bs (255 ∷ 255 ∷ 255 ∷ 255 ∷ 255 ∷ []) ≡ are_broken bs
+are_broken_as_equal = with_five (λ bs. pointwise eqb bs (255 ∷ 255 ∷ 255 ∷ 255 ∷ 255 ∷ []) ≡ are_broken bs) (λ a b c d e. from_the_left (eqb a 255) (eqb b 255) (eqb c 255) (eqb d 255) (eqb e 255))
+
 module _ (a b c d e : ℕ) (x : Span) (found : read_span (a ∷ b ∷ c ∷ d ∷ e ∷ []) ≡ Some x) where
   spelled_broken : are_broken (a ∷ b ∷ c ∷ d ∷ e ∷ []) ≡ true → put_span x ≡ a ∷ b ∷ c ∷ d ∷ e ∷ []
   spelled_broken all =
-      let first_four = and_parts _ _ all in
-      let first_three = and_parts _ _ first_four.0 in
-      let first_two = and_parts _ _ first_three.0 in
-      let ends = and_parts _ _ first_two.0 in
-      let is : read_span (a ∷ b ∷ c ∷ d ∷ e ∷ []) ≡ Some Broken = cond-true (are_broken (a ∷ b ∷ c ∷ d ∷ e ∷ [])) (Some Broken) (cond (aligned (number_at 0 (a ∷ b ∷ c ∷ d ∷ e ∷ [])) e) (Some (span (number_at 0 (a ∷ b ∷ c ∷ d ∷ e ∷ [])) e)) None) all in
+      let bs : List ℕ = a ∷ b ∷ c ∷ d ∷ e ∷ [] in
+      let is : read_span bs ≡ Some Broken = cond-true (are_broken bs) (Some Broken) (cond (aligned (number_at 0 bs) e) (Some (span (number_at 0 bs) e)) None) all in
       let broken : x ≡ Broken = cc in
-      let at_a = eqb-true a 255 ends.0 in
-      let at_b = eqb-true b 255 ends.1 in
-      let at_c = eqb-true c 255 first_two.1 in
-      let at_d = eqb-true d 255 first_three.1 in
-      let at_e = eqb-true e 255 first_four.1 in
-      ap put_span broken ∙ sym (λ i. at_a i ∷ at_b i ∷ at_c i ∷ at_d i ∷ at_e i ∷ [])
+      ap put_span broken ∙ sym ((slice_eq-Decides Decides-eqb bs (replicate 5 255) (are_broken bs) (sym (are_broken_as_equal bs refl))).0 all)
 
   spelled_whole : a < 256 → b < 256 → c < 256 → d < 256 → are_broken (a ∷ b ∷ c ∷ d ∷ e ∷ []) ≡ false → aligned (number_at 0 (a ∷ b ∷ c ∷ d ∷ e ∷ [])) e ≡ true → put_span x ≡ a ∷ b ∷ c ∷ d ∷ e ∷ []
   spelled_whole ha hb hc hd sound whole =
@@ -108,10 +125,5 @@ module _ (a b c d e : ℕ) (x : Span) (found : read_span (a ∷ b ∷ c ∷ d �
       (cases_Bool (are_broken bs))
 
 pub dummy_one_spelling : OneSpelling dummy_meaning
-dummy_one_spelling (a ∷ b ∷ c ∷ d ∷ e ∷ []) x long bytes found = spelled_five a b c d e x found (bytes 0) (bytes 1) (bytes 2) (bytes 3)
-dummy_one_spelling [] x long bytes found = absurd (omega arith)
-dummy_one_spelling (_ ∷ []) x long bytes found = absurd (omega arith)
-dummy_one_spelling (_ ∷ _ ∷ []) x long bytes found = absurd (omega arith)
-dummy_one_spelling (_ ∷ _ ∷ _ ∷ []) x long bytes found = absurd (omega arith)
-dummy_one_spelling (_ ∷ _ ∷ _ ∷ _ ∷ []) x long bytes found = absurd (omega arith)
-dummy_one_spelling (_ ∷ _ ∷ _ ∷ _ ∷ _ ∷ _ ∷ rest) x long bytes found = absurd (omega arith)
+dummy_one_spelling bytes x long each found =
+    with_five (λ bs. ((i : ℕ) → slice_index bs i < 256) → read_span bs ≡ Some x → put_span x ≡ bs) (λ a b c d e small is. spelled_five a b c d e x is (small 0) (small 1) (small 2) (small 3)) bytes long each found

@@ -2,6 +2,8 @@
 use Rattle.std.specs.Prelude.{◌≡◌, ℕ, ◌+◌, ◌^◌, Bool, true, false, cond, ◌&&◌, List, [], ◌∷◌, ◌++◌, replicate, Some, None, Option, ◌==◌, slice_index, refl}
 use Rattle.tree.specs.Meaning.{Meaning}
 use Rattle.tree.specs.Numbers.{number_bytes, number_at, aligned}
+use Rattle.tree.specs.Kinds.{kind_byte, node_width}
+use Rattle.tree.specs.declared.kind.Kind.TheVariants.{Dummy}
 use Rattle.tree.specs.declared.span.Interval.{Interval}
 use Rattle.tree.specs.declared.span.Span.{Span}
 use Rattle.tree.specs.declared.span.Span.TheVariants.{Sound, Broken}
@@ -42,6 +44,6 @@ dummy_meaning = record {
   join = join_spans;
   put = put_span;
   read = read_span;
-  kind = 2;
-  width = 5;
+  kind = kind_byte Dummy;
+  width = node_width Dummy;
 }

@@ -1,7 +1,7 @@
 ghost use Rattle.std.specs.Prelude.{◌≡◌, ◌^◌, ◌<◌};
 ghost use Rattle.tree.specs.Meaning.{reading, after};
 
-// A maker's meter: the leaves and the joins that it has made, each modulo 2^64.
+/// A maker's meter: the leaves and the joins that it has made, each modulo 2^64.
 #[derive(Drop)]
 pub struct Counter {
     leaves: u64,
@@ -10,8 +10,10 @@ pub struct Counter {
 }
 
 impl Counter {
+    ghost use Rattle.tree.specs.Counting.{metered};
+
     pub fn new() -> Counter
-        ensures { reading result.leaves result.joins ≡ reading 0 0 }
+        ensures { metered result ≡ reading 0 0 }
     {
         Counter {
             leaves: 0,
@@ -19,20 +21,21 @@ impl Counter {
         }
     }
 
+    /// Two calls and not one for any counts, since `count_leaf()` says more than `count(1, 0)`.
     pub fn count_leaf(&mut self)
-        ensures { reading self.new.leaves self.new.joins ≡ after 1 0 (reading self.old.leaves self.old.joins) }
+        ensures { metered self.new ≡ after 1 0 (metered self.old) }
     {
         self.leaves = self.leaves.wrapping_add(1);
     }
 
     pub fn count_join(&mut self)
-        ensures { reading self.new.leaves self.new.joins ≡ after 0 1 (reading self.old.leaves self.old.joins) }
+        ensures { metered self.new ≡ after 0 1 (metered self.old) }
     {
         self.joins = self.joins.wrapping_add(1);
     }
 
     pub fn counts(&self) -> (u64, u64)
-        ensures { result ≡ (self.now.leaves, self.now.joins) }
+        ensures { result ≡ ((metered self.now).leaves, (metered self.now).joins) }
     {
         (self.leaves, self.joins)
     }

@@ -1,18 +1,18 @@
-ghost use Rattle.std.specs.Prelude.{◌≡◌, ◌^◌, ◌≤◌, length, Decides};
-ghost use Rattle.tree.specs.Numbers.{aligned};
+ghost use Rattle.std.specs.Prelude.{◌≡◌};
 ghost use Rattle.tree.specs.Meaning.{reading, OneSpelling};
-ghost use Rattle.tree.specs.Spans.{span, join_intervals, join_spans, put_span, are_broken, read_span, dummy_meaning};
-ghost use Rattle.tree.specs.declared.span.Span.TheVariants.{Sound, Broken};
+ghost use Rattle.tree.specs.Counting.{metered};
+ghost use Rattle.tree.specs.Spans.{span, join_intervals, join_spans, put_span, read_span, dummy_meaning};
 ghost use Rattle.tree.specs.Spanning.{dummy_lawful};
 ghost use Rattle.std.proofs.Common.{rules};
 
 use crate::counter::Counter;
 use crate::fault::TooShort;
+use crate::kind::Kind;
 use crate::maker::Maker;
 use crate::span::{Interval, Span};
 
-// The dummy maker: hashes nothing, so that a run can be tried without a licence, and its nodes tell
-// where in the tree they stand.
+/// The dummy maker: hashes nothing, so that a run can be tried without a licence, and its nodes tell
+/// where in the tree they stand.
 #[derive(Drop)]
 pub struct Dummy {
     counter: Counter,
@@ -20,7 +20,7 @@ pub struct Dummy {
 
 impl Dummy {
     pub fn new() -> Dummy
-        ensures starts { reading result.counter.leaves result.counter.joins ≡ reading 0 0 }
+        ensures starts { metered result.counter ≡ reading 0 0 }
         ensures one_spelling { OneSpelling dummy_meaning }
     {
         Dummy {
@@ -29,31 +29,32 @@ impl Dummy {
     }
 }
 
+// This impl and that of `Sealed` are alike in lines that call the counter or take a chunk. A maker over any scheme
+// would need a second trait with the functions of this one, and would be no plainer.
 impl Maker for Dummy {
     type Node = Span;
 
     ghost meaning = { λ _. dummy_meaning };
 
-    ghost meter = { λ s. reading s.counter.leaves s.counter.joins };
+    ghost meter = { λ s. metered s.counter };
 
     ghost lawful = { λ s. dummy_lawful };
 
     ghost wraps = { Prim.search rules };
 
     fn kind(&self) -> u8 {
-        2
+        Kind::Dummy.into()
     }
 
     fn width(&self) -> usize {
-        WIDTH
+        Kind::Dummy.width()
     }
 
     fn made(&self) -> (u64, u64) {
         self.counter.counts()
     }
 
-    fn leaf(&mut self, number: u32, token: &[u8]) -> Span {
-        let _ = token;
+    fn leaf(&mut self, number: u32, _token: &[u8]) -> Span {
         self.counter.count_leaf();
         span_of(number, 0)
     }
@@ -64,72 +65,37 @@ impl Maker for Dummy {
     }
 
     fn same(&self, one: Span, other: Span) -> bool {
-        same_span(one, other)
+        one == other
     }
 
     fn put(&self, node: Span, out: &mut [u8]) -> Result<(), TooShort> {
-        if out.len() < WIDTH {
-            return Err(TooShort { needed: WIDTH });
-        }
-        out[0..WIDTH].copy_from_slice(&span_bytes(node));
+        *out.first_chunk_mut().ok_or(TooShort { needed: WIDTH })? = node.into();
         Ok(())
     }
 
     fn read(&self, bytes: &[u8]) -> Result<Option<Span>, TooShort> {
-        if bytes.len() < WIDTH {
-            return Err(TooShort { needed: WIDTH });
-        }
-        Ok(read_span(bytes))
+        let front = bytes.first_chunk().ok_or(TooShort { needed: WIDTH })?;
+        Ok(read_span(front))
     }
 }
 
-// A node's bytes: four for the first number and one for the height.
-const WIDTH: usize = 5;
+/// A node's bytes: four for the first number and one for the height.
+pub(crate) const WIDTH: usize = 5;
 
-// Any byte of the broken span.
+/// Any byte of the broken span.
 const BROKEN: u8 = 255;
 
-// No span passes this height, or this number of leaves.
-const TOP: u8 = 20;
-
-const LEAVES: u32 = 1 << 20;
-
-// How many leaves lie below a node of this height.
-fn leaves_below(height: u8) -> u32
-    requires { height ≤ 20 }
-    ensures value { result ≡ 2 ^ height }
-    ensures bound { (result ≤ 2 ^ 20) × (1 ≤ result) }
-{
-    1 << height
-}
-
-// Whether 2^height leaves from `first` on are the leaves below a node.
-fn is_whole(first: u32, height: u8) -> bool
-    ensures { result ≡ aligned first height }
-{
-    if height > TOP {
-        return false;
-    }
-    let count = leaves_below(height);
-    first % count == 0 && first <= LEAVES - count
-}
-
-// The span of 2^height leaves from `first` on.
+/// The span of 2^height leaves from `first` on.
 fn span_of(first: u32, height: u8) -> Span
     ensures { result ≡ span first height }
 {
-    if is_whole(first, height) {
-        Span::Sound(Interval { first, height })
-    } else {
-        Span::Broken
-    }
+    Interval::new(first, height).map_or(Span::Broken, Span::Sound)
 }
 
 fn join_intervals(left: Interval, right: Interval) -> Span
     ensures { result ≡ join_intervals left right }
 {
-    let neighbour = left.first + leaves_below(left.height);
-    if right.height == left.height && right.first == neighbour {
+    if right.height == left.height && right.first == left.end() {
         span_of(left.first, left.height + 1)
     } else {
         Span::Broken
@@ -139,78 +105,35 @@ fn join_intervals(left: Interval, right: Interval) -> Span
 fn join_spans(left: Span, right: Span) -> Span
     ensures { result ≡ join_spans left right }
 {
-    let Span::Sound(a) = left else {
-        return Span::Broken;
-    };
-    let Span::Sound(b) = right else {
-        return Span::Broken;
-    };
-    join_intervals(a, b)
-}
-
-fn same_span(one: Span, other: Span) -> bool
-    ensures { Decides result (one ≡ other) }
-{
-    match one {
-        Span::Sound(a) => is_interval(other, a),
-        Span::Broken => is_broken(other),
+    match (left, right) {
+        (Span::Sound(a), Span::Sound(b)) => join_intervals(a, b),
+        _ => Span::Broken,
     }
 }
 
-fn is_interval(span: Span, a: Interval) -> bool
-    ensures { Decides result (Sound a ≡ span) }
-{
-    match span {
-        Span::Sound(b) => a.first == b.first && a.height == b.height,
-        Span::Broken => false,
-    }
-}
+// A node as bytes.
+impl From<Span> for [u8; WIDTH] {
+    ghost from_gives = { λ node bytes. bytes ≡ put_span node };
 
-fn is_broken(span: Span) -> bool
-    ensures { Decides result (Broken ≡ span) }
-{
-    match span {
-        Span::Sound(_) => false,
-        Span::Broken => true,
-    }
-}
-
-fn span_bytes(node: Span) -> [u8; 5]
-    ensures { result ≡ put_span node }
-{
-    match node {
-        Span::Sound(a) => {
-            let [b3, b2, b1, b0] = a.first.to_be_bytes();
-            [b3, b2, b1, b0, a.height]
+    fn from(node: Span) -> [u8; WIDTH] {
+        match node {
+            Span::Sound(a) => {
+                let [b3, b2, b1, b0] = a.first.to_be_bytes();
+                [b3, b2, b1, b0, a.height]
+            }
+            Span::Broken => [BROKEN; WIDTH],
         }
-        Span::Broken => [BROKEN; WIDTH],
     }
 }
 
-// Whether the first five bytes are those of the broken span.
-fn are_broken(bytes: &[u8]) -> bool
-    requires { 5 ≤ length bytes.now }
-    ensures { result ≡ are_broken bytes.now }
-{
-    bytes[0] == BROKEN
-        && bytes[1] == BROKEN
-        && bytes[2] == BROKEN
-        && bytes[3] == BROKEN
-        && bytes[4] == BROKEN
-}
-
-fn read_span(bytes: &[u8]) -> Option<Span>
-    requires { 5 ≤ length bytes.now }
+/// The node that bytes are, if they are one. It is no `TryFrom`: it answers an `Option`, as `Maker::read` does.
+fn read_span(bytes: &[u8; WIDTH]) -> Option<Span>
     ensures { result ≡ read_span bytes.now }
 {
-    if are_broken(bytes) {
+    if *bytes == [BROKEN; WIDTH] {
         return Some(Span::Broken);
     }
-    let first = u32::from_be_bytes([bytes[0], bytes[1], bytes[2], bytes[3]]);
-    let height = bytes[4];
-    if is_whole(first, height) {
-        Some(span_of(first, height))
-    } else {
-        None
-    }
+    let [b3, b2, b1, b0, height] = *bytes;
+    let first = u32::from_be_bytes([b3, b2, b1, b0]);
+    Interval::new(first, height).map(Span::Sound)
 }

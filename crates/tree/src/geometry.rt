@@ -1,34 +1,58 @@
 ghost use Rattle.std.specs.Prelude.{◌≡◌, true};
 ghost use Rattle.tree.specs.Numbers.{legal_height};
-ghost use Rattle.tree.specs.Geometry.{legal_subtree, table_size, Sizes};
+ghost use Rattle.tree.specs.Geometry.{legal_subtree, table_size, Shaped, Sizes};
 
 use crate::height::is_height;
 use crate::refusal::Refusal;
 
-// The greatest height of a subtree.
+/// The greatest height of a subtree.
 const GREATEST: u32 = 10;
 
-// Whether a tree of this height has subtrees of that height.
+/// Whether a tree of this height has subtrees of that height.
 pub fn is_subtree(height: u32, subtree: u32) -> bool
     ensures { result ≡ legal_subtree height subtree }
 {
-    subtree >= 1 && subtree <= GREATEST && height % subtree == 0
+    (1..=GREATEST).contains(&subtree) && height % subtree == 0
 }
 
-// How many cells the table of a traversal has.
+/// The shape of a traversal: the height of its tree, that of its subtrees, and how many cells its table has.
+#[derive(Clone, Copy)]
+pub struct Shape {
+    pub height: u32,
+    pub subtree: u32,
+    pub cells: usize,
+    ghost shaped: { Shaped height subtree cells },
+}
+
+impl Shape {
+    ghost use Rattle.tree.specs.Shapes.{Shapes};
+
+    /// The shape for two heights.
+    pub fn new(height: u32, subtree: u32) -> Result<Shape, Refusal>
+        ensures { Shapes height subtree result }
+    {
+        if !is_height(height) {
+            return Err(Refusal::Height(height));
+        }
+        if !is_subtree(height, subtree) {
+            return Err(Refusal::Subtree(subtree));
+        }
+        Ok(Shape {
+            height,
+            subtree,
+            cells: cells(height as usize, subtree as usize),
+        })
+    }
+}
+
+/// How many cells the table of a traversal has.
 pub fn size(height: u32, subtree: u32) -> Result<usize, Refusal>
     ensures { Sizes height subtree result }
 {
-    if !is_height(height) {
-        return Err(Refusal::Height(height));
-    }
-    if !is_subtree(height, subtree) {
-        return Err(Refusal::Subtree(subtree));
-    }
-    Ok(cells(height as usize, subtree as usize))
+    Ok(Shape::new(height, subtree)?.cells)
 }
 
-// The same for heights that are in order.
+/// The same for heights that are in order.
 fn cells(height: usize, subtree: usize) -> usize
     requires height { legal_height height ≡ true }
     requires subtree { legal_subtree height subtree ≡ true }

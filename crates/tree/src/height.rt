@@ -1,25 +1,22 @@
 ghost use Rattle.std.specs.Prelude.{◌≡◌, ◌^◌, nat_lt};
 ghost use Rattle.tree.specs.Numbers.{legal_height};
 
-// The least and the greatest height of a tree.
+/// The least height of a tree.
 const LEAST: u32 = 1;
 
-const GREATEST: u32 = 20;
+/// The greatest height of a tree.
+pub(crate) const GREATEST: u32 = 20;
 
-// Whether a tree can have this height.
+/// Whether a tree can have this height.
 pub fn is_height(height: u32) -> bool
     ensures { result ≡ legal_height height }
 {
-    height >= LEAST && height <= GREATEST
+    (LEAST..=GREATEST).contains(&height)
 }
 
-// Whether a tree of this height has a leaf of this number.
+/// Whether a tree of this height has a leaf of this number.
 pub fn has_leaf(height: u32, number: u32) -> bool
     ensures { result ≡ nat_lt number (2 ^ height) }
 {
-    if height < u32::BITS {
-        number >> height == 0
-    } else {
-        true
-    }
+    number.checked_shr(height).unwrap_or(0) == 0
 }

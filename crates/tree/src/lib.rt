@@ -1,7 +1,8 @@
+//! Merkle trees over one-time tokens: what makes nodes, what the full tree is, and the fold from a leaf
+//! to the root.
+
 #![tactic(auto)]
 
-// Merkle trees over one-time tokens: what makes nodes, what the full tree is, and the fold from a leaf
-// to the root.
 pub mod counter;
 pub mod digest;
 pub mod dummy;
@@ -9,6 +10,7 @@ pub mod fault;
 pub mod fold;
 pub mod geometry;
 pub mod height;
+pub mod kind;
 pub mod list;
 pub mod maker;
 pub mod refusal;

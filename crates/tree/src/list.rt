@@ -1,19 +1,21 @@
 ghost use Rattle.std.specs.Prelude.{◌≡◌};
-ghost use Rattle.tree.specs.Entries.{list_supply};
+ghost use Rattle.tree.specs.Entries.{list_supply, Finds};
+ghost use Rattle.tree.specs.Supplying.{list_supplies};
 
-use crate::fault::{Cause, Missing, Presence};
+use crate::fault::{Cause, Missing};
+use crate::height;
 use crate::source::Source;
 
-// How many bytes an entry has: a mark and a token.
+/// How many bytes an entry has: a mark and a token.
 const ENTRY: usize = 33;
 
-// The mark of a token that is present.
+/// The mark of a token that is present.
 const PRESENT: u8 = 1;
 
-// The greatest size of a source.
-const GREATEST: usize = 1 << 20;
+/// The greatest size of a source.
+const GREATEST: usize = 1 << height::GREATEST;
 
-// Tokens from a list of entries in bytes.
+/// Tokens from a list of entries in bytes.
 #[derive(Drop)]
 pub struct ListSource<'a> {
     bytes: &'a [u8],
@@ -25,34 +27,41 @@ impl<'a> ListSource<'a> {
     {
         ListSource { bytes }
     }
+
+    /// The token of a number, or why there is none.
+    fn find(&self, number: u32) -> Result<&[u8], Cause>
+        ensures { Finds (list_supply self.now.bytes.now) number result }
+    {
+        if number >= self.size() {
+            return Err(Cause::Beyond);
+        }
+        let (entries, _) = self.bytes.as_chunks::<ENTRY>();
+        let entry = &entries[number as usize][..];
+        match entry {
+            [PRESENT, token @ ..] => Ok(token),
+            _ => Err(Cause::Torn),
+        }
+    }
 }
 
 impl<'a> Source for ListSource<'a> {
     ghost supply = { λ s. list_supply s.bytes.now };
 
+    ghost supplies = { λ s. list_supplies s.bytes.now };
+
     fn size(&self) -> u32 {
         (self.bytes.len() / ENTRY).min(GREATEST) as u32
     }
 
-    fn look_up(&self, number: u32) -> Presence {
-        if number >= self.size() {
-            return Presence::Absent(Cause::Beyond);
-        }
-        if self.bytes[ENTRY * number as usize] == PRESENT {
-            Presence::Present
-        } else {
-            Presence::Absent(Cause::Torn)
-        }
+    fn look_up(&self, number: u32) -> Result<(), Cause> {
+        self.find(number).map(|_| ())
     }
 
     fn token(&mut self, number: u32, out: &mut [u8; 32]) -> Result<(), Missing> {
-        match self.look_up(number) {
-            Presence::Absent(cause) => Err(Missing { number, cause }),
-            Presence::Present => {
-                let start = ENTRY * number as usize + 1;
-                out.copy_from_slice(&self.bytes[start..start + 32]);
-                Ok(())
-            }
-        }
+        let token = self
+            .find(number)
+            .map_err(|cause| Missing { number, cause })?;
+        out.copy_from_slice(token);
+        Ok(())
     }
 }

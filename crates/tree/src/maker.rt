@@ -3,9 +3,10 @@ ghost use Rattle.tree.specs.Meaning.{Meaning, Lawful, Meter, Wraps, after, Puts,
 
 use crate::fault::TooShort;
 
-// A hash scheme for Merkle trees: how leaves and inner nodes are made, compared and put into bytes. The
-// meaning belongs to the value, so two makers of one type may mean different functions. Every leaf and
-// every join is counted, since hashing is licensed by the node.
+/// A hash scheme for Merkle trees: how leaves and inner nodes are made, compared and put into bytes. The
+/// meaning belongs to the value, so two makers of one type may mean different functions. Every leaf and
+/// every join is counted, since hashing is licensed by the node. A function that takes a maker mutably says in
+/// its contract that the meaning stays: no law of the trait can speak of other functions.
 pub trait Maker {
     type Node: Copy;
 
@@ -13,39 +14,39 @@ pub trait Maker {
 
     ghost meter: { Self → Meter };
 
-    // The byte that names this maker in a strip.
+    /// The byte that names this maker in a strip; no `Kind`, since other makers have kinds of their own.
     fn kind(&self) -> u8
         ensures { result ≡ (meaning self.now).kind };
 
-    // How many bytes a node has.
+    /// How many bytes a node has.
     fn width(&self) -> usize
         ensures { result ≡ (meaning self.now).width };
 
-    // The leaves and the joins made so far, each modulo 2^64.
+    /// The leaves and the joins made so far, each modulo 2^64.
     fn made(&self) -> (u64, u64)
         ensures { result ≡ ((meter self.now).leaves, (meter self.now).joins) };
 
-    // The leaf of a number and its token.
+    /// The leaf of a number and its token.
     fn leaf(&mut self, number: u32, token: &[u8]) -> Self::Node
         ensures value { result ≡ (meaning self.old).leaf number token.now }
         ensures keeps { meaning self.new ≡ meaning self.old }
         ensures counts { meter self.new ≡ after 1 0 (meter self.old) };
 
-    // The parent of two nodes.
+    /// The parent of two nodes.
     fn join(&mut self, left: Self::Node, right: Self::Node) -> Self::Node
         ensures value { result ≡ (meaning self.old).join left right }
         ensures keeps { meaning self.new ≡ meaning self.old }
         ensures counts { meter self.new ≡ after 0 1 (meter self.old) };
 
-    // Whether two nodes are equal.
+    /// Whether two nodes are equal.
     fn same(&self, one: Self::Node, other: Self::Node) -> bool
         ensures { Decides result (one ≡ other) };
 
-    // Puts a node into the front of `out`.
+    /// Puts a node into the front of `out`.
     fn put(&self, node: Self::Node, out: &mut [u8]) -> Result<(), TooShort>
         ensures { Puts (meaning self.now) node out.old out.new result };
 
-    // The node at the front of `bytes`, if one is there.
+    /// The node at the front of `bytes`, if one is there.
     fn read(&self, bytes: &[u8]) -> Result<Option<Self::Node>, TooShort>
         ensures { Reads (meaning self.now) bytes.now result };
 

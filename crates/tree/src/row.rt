@@ -1,12 +1,13 @@
 ghost use Rattle.std.specs.Prelude.{◌≡◌, ◌+◌, ◌++◌, length};
 
-// Fills a slice with two others, one after the other.
-pub(crate) fn lay(row: &mut [u8], left: &[u8], right: &[u8])
-    requires { length row.old ≡ length left.now + length right.now }
-    ensures { row.new ≡ left.now ++ right.now }
+/// Two slices in a row.
+pub(crate) fn in_row<const N: usize>(left: &[u8], right: &[u8]) -> [u8; N]
+    requires { length left.now + length right.now ≡ N }
+    ensures { result ≡ left.now ++ right.now }
 {
-    let middle = left.len();
-    let end = row.len();
-    row[0..middle].copy_from_slice(left);
-    row[middle..end].copy_from_slice(right);
+    let mut row = [0; N];
+    let (front, back) = row.split_at_mut(left.len());
+    front.copy_from_slice(left);
+    back.copy_from_slice(right);
+    row
 }

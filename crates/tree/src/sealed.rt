@@ -1,5 +1,6 @@
-ghost use Rattle.std.specs.Prelude.{◌≡◌, ◌++◌};
+ghost use Rattle.std.specs.Prelude.{◌≡◌};
 ghost use Rattle.tree.specs.Meaning.{reading, OneSpelling};
+ghost use Rattle.tree.specs.Counting.{metered};
 ghost use Rattle.tree.specs.Digests.{sealed_meaning};
 ghost use Rattle.tree.specs.Sealing.{sealed_lawful};
 ghost use Rattle.std.proofs.Common.{rules};
@@ -7,14 +8,18 @@ ghost use Rattle.std.proofs.Common.{rules};
 use crate::counter::Counter;
 use crate::digest::Digest;
 use crate::fault::TooShort;
+use crate::kind::Kind;
 use crate::maker::Maker;
-use crate::row::lay;
+use crate::row::in_row;
 use hashing::digest;
 
-// A node's bytes.
-const WIDTH: usize = 32;
+/// A node's bytes.
+pub(crate) const WIDTH: usize = 32;
 
-// The sealed maker: plain SHA-256, of the token for a leaf and of both children for a join.
+/// The bytes of two nodes.
+const PAIR: usize = 2 * WIDTH;
+
+/// The sealed maker: plain SHA-256, of the token for a leaf and of both children for a join.
 #[derive(Drop)]
 pub struct Sealed {
     counter: Counter,
@@ -22,7 +27,7 @@ pub struct Sealed {
 
 impl Sealed {
     pub fn new() -> Sealed
-        ensures starts { reading result.counter.leaves result.counter.joins ≡ reading 0 0 }
+        ensures starts { metered result.counter ≡ reading 0 0 }
         ensures one_spelling { OneSpelling sealed_meaning }
     {
         Sealed {
@@ -36,26 +41,25 @@ impl Maker for Sealed {
 
     ghost meaning = { λ _. sealed_meaning };
 
-    ghost meter = { λ s. reading s.counter.leaves s.counter.joins };
+    ghost meter = { λ s. metered s.counter };
 
     ghost lawful = { λ s. sealed_lawful };
 
     ghost wraps = { Prim.search rules };
 
     fn kind(&self) -> u8 {
-        1
+        Kind::Sealed.into()
     }
 
     fn width(&self) -> usize {
-        WIDTH
+        Kind::Sealed.width()
     }
 
     fn made(&self) -> (u64, u64) {
         self.counter.counts()
     }
 
-    fn leaf(&mut self, number: u32, token: &[u8]) -> Digest {
-        let _ = number;
+    fn leaf(&mut self, _number: u32, token: &[u8]) -> Digest {
         self.counter.count_leaf();
         Digest {
             bytes: digest(token),
@@ -65,37 +69,23 @@ impl Maker for Sealed {
     fn join(&mut self, left: Digest, right: Digest) -> Digest {
         self.counter.count_join();
         Digest {
-            bytes: digest(&in_row(&left.bytes, &right.bytes)),
+            bytes: digest(&in_row::<PAIR>(&left.bytes, &right.bytes)),
         }
     }
 
     fn same(&self, one: Digest, other: Digest) -> bool {
-        one.bytes == other.bytes
+        one == other
     }
 
     fn put(&self, node: Digest, out: &mut [u8]) -> Result<(), TooShort> {
-        if out.len() < WIDTH {
-            return Err(TooShort { needed: WIDTH });
-        }
-        out[0..WIDTH].copy_from_slice(&node.bytes);
+        *out.first_chunk_mut().ok_or(TooShort { needed: WIDTH })? = node.bytes;
         Ok(())
     }
 
     fn read(&self, bytes: &[u8]) -> Result<Option<Digest>, TooShort> {
-        if bytes.len() < WIDTH {
-            return Err(TooShort { needed: WIDTH });
-        }
-        let mut own = [0; WIDTH];
-        own.copy_from_slice(&bytes[0..WIDTH]);
-        Ok(Some(Digest { bytes: own }))
+        let front = bytes
+            .first_chunk::<WIDTH>()
+            .ok_or(TooShort { needed: WIDTH })?;
+        Ok(Some(Digest { bytes: *front }))
     }
-}
-
-// The bytes of two digests, one after the other.
-fn in_row(left: &[u8; 32], right: &[u8; 32]) -> [u8; 64]
-    ensures { result ≡ left.now ++ right.now }
-{
-    let mut row = [0; 64];
-    lay(&mut row, left, right);
-    row
 }

@@ -1,39 +1,41 @@
-ghost use Rattle.std.specs.Prelude.{◌≡◌, ◌++◌};
-ghost use Rattle.tree.specs.Numbers.{number_bytes};
+ghost use Rattle.std.specs.Prelude.{◌≡◌};
 ghost use Rattle.tree.specs.Seeds.{seed_supply, Reseeds};
+ghost use Rattle.tree.specs.Supplying.{seed_supplies};
 
-use crate::fault::{Cause, Missing, Presence, TooShort};
-use crate::row::lay;
+use crate::fault::{Cause, Missing, TooShort};
+use crate::height::GREATEST;
+use crate::row::in_row;
 use crate::source::Source;
 use hashing::digest;
 
-// How many bytes a seed has.
+/// How many bytes a seed has.
 const SEED: usize = 32;
 
-// How many tokens a seed yields.
-const TOKENS: u32 = 1 << 20;
+/// How many bytes a token is the hash of: the seed and a number.
+const SEEDED: usize = SEED + 4;
 
-// Tokens from a secret seed.
+/// How many tokens a seed yields.
+const TOKENS: u32 = 1 << GREATEST;
+
+/// Tokens from a secret seed.
 #[derive(Drop)]
 pub struct SeedSource {
-    seed: [u8; 32],
+    seed: [u8; SEED],
 }
 
 impl SeedSource {
-    pub fn new(seed: [u8; 32]) -> SeedSource
+    pub fn new(seed: [u8; SEED]) -> SeedSource
         ensures { result.seed ≡ seed }
     {
         SeedSource { seed }
     }
 
-    // Takes another seed, the first 32 bytes of a slice.
+    /// Takes another seed, the first 32 bytes of a slice.
     pub fn reseed(&mut self, seed: &[u8]) -> Result<(), TooShort>
         ensures { Reseeds self.old.seed seed.now self.new.seed result }
     {
-        if seed.len() < SEED {
-            return Err(TooShort { needed: SEED });
-        }
-        self.seed.copy_from_slice(&seed[0..SEED]);
+        let front = seed.first_chunk::<SEED>().ok_or(TooShort { needed: SEED })?;
+        self.seed = *front;
         Ok(())
     }
 }
@@ -41,35 +43,24 @@ impl SeedSource {
 impl Source for SeedSource {
     ghost supply = { λ s. seed_supply s.seed };
 
+    ghost supplies = { λ s. seed_supplies s.seed };
+
     fn size(&self) -> u32 {
         TOKENS
     }
 
-    fn look_up(&self, number: u32) -> Presence {
+    fn look_up(&self, number: u32) -> Result<(), Cause> {
         if number < TOKENS {
-            Presence::Present
+            Ok(())
         } else {
-            Presence::Absent(Cause::Beyond)
+            Err(Cause::Beyond)
         }
     }
 
     fn token(&mut self, number: u32, out: &mut [u8; 32]) -> Result<(), Missing> {
-        if number >= TOKENS {
-            return Err(Missing {
-                number,
-                cause: Cause::Beyond,
-            });
-        }
-        *out = digest(&with_number(&self.seed, number));
+        self.look_up(number)
+            .map_err(|cause| Missing { number, cause })?;
+        *out = digest(&in_row::<SEEDED>(&self.seed, &number.to_be_bytes()));
         Ok(())
     }
-}
-
-// A seed and a number after it.
-fn with_number(seed: &[u8; 32], number: u32) -> [u8; 36]
-    ensures { result ≡ seed.now ++ number_bytes number }
-{
-    let mut row = [0; 36];
-    lay(&mut row, seed, &number.to_be_bytes());
-    row
 }

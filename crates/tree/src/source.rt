@@ -1,25 +1,25 @@
 ghost use Rattle.std.specs.Prelude.{◌≡◌};
 ghost use Rattle.tree.specs.Supply.{Supply, Supplies, presence, Gives};
 
-use crate::fault::{Missing, Presence};
+use crate::fault::{Cause, Missing};
 
-// A supply of one-time tokens by number. The meaning belongs to the value, and no call alters it; the token
-// call takes the source mutably, since a source may hold a place and move it.
+/// A supply of one-time tokens by number. The meaning belongs to the value, and no call alters it; the token
+/// call takes the source mutably, since a source may hold a place and move it.
 pub trait Source {
     ghost supply: { Self → Supply };
 
-    // How many numbers the source has. What every supply keeps is told here, and not by a law of the trait,
-    // so that a source may borrow.
+    /// How many numbers the source has.
     fn size(&self) -> u32
-        ensures value { result ≡ (supply self.now).size }
-        ensures lawful { Supplies (supply self.now) };
+        ensures { result ≡ (supply self.now).size };
 
-    // Whether the token of a number is there.
-    fn look_up(&self, number: u32) -> Presence
+    /// Whether the token of a number is there.
+    fn look_up(&self, number: u32) -> Result<(), Cause>
         ensures { result ≡ presence (supply self.now) number };
 
-    // Writes the token of a number.
+    /// Writes the token of a number.
     fn token(&mut self, number: u32, out: &mut [u8; 32]) -> Result<(), Missing>
         ensures gives { Gives (supply self.old) number out.old out.new result }
         ensures keeps { supply self.new ≡ supply self.old };
+
+    ghost supplies: { (s : Self) → Supplies (supply s) };
 }

@@ -17,7 +17,7 @@ const ONE_BLOCK: [u8; 64] = [
     0xf3, 0x35, 0x39, 0x03, 0x94, 0xc3, 0x7f, 0xa1, 0xa9, 0xf9, 0xbe, 0x83, 0x6a, 0xc2, 0x85, 0x09,
 ];
 
-/// The digit of a number below 16.
+/// The digit of a number below 16. `text::hex::Hex` writes the same digits, but this program sees `hashing` alone.
 fn hex_digit(n: u8) -> u8
     requires { n < 16 }
     ensures { result ≡ hex_digit n }
@@ -35,9 +35,7 @@ fn hex_text(bytes: [u8; 32]) -> [u8; 64]
     ensures { result ≡ hex_text bytes }
 {
     let mut text = [0; 64];
-    for (i, byte) in bytes.iter().enumerate() {
-        text[2 * i..2 * i + 2].copy_from_slice(&hex_pair(*byte));
-    }
+    text.copy_from_slice(bytes.map(hex_pair).as_flattened());
     text
 }
 

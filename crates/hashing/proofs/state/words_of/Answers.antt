@@ -1,9 +1,18 @@
-use Rattle.std.proofs.Common.{get_or, set, ap, ◌∙◌, arith}
-use Rattle.std.proofs.lemmas.List.Edits.{fill_by_more}
-use Rattle.hashing.specs.Sha256.{word_at}
+use Rattle.std.proofs.Common.{◌≡◌, ◌/◌, [], length, get_or, sym, ap, ◌∙◌, zero-add, w32, arith, rules}
+use Rattle.std.specs.Int.{from_be_bytes}
+use Rattle.std.specs.Simd.{first_chunks}
+use Rattle.hashing.specs.Sha256.{W}
+use Rattle.hashing.proofs.Arrays.{from_fn_is}
+use Rattle.hashing.proofs.Blocks.{word_is}
+use Rattle.hashing.proofs.Schedule.{W_first}
 use Rattle.hashing.proofs.state.words_of.Goals as goal
 
-pub loop-j-preserved : goal.loop-j-preserved
-loop-j-preserved c k h =
-    ap (λ v. get_or (set c.loop-j.word-items c.loop-j.j v) k 0) c.word_at.ensures ∙
-    fill_by_more (word_at c.args.block.now) c.loop-j.word-items c.loop-j.j 0 (omega arith) c.loop-j.invariant k h
+pub returns : goal.returns
+returns c j h =
+    let M = c.args.block.now in
+    let parts = c.as_chunks.result.0.now in
+    let count : length M / 4 ≡ 16 = omega arith in
+    let chunks : parts ≡ first_chunks 4 16 M = c.as_chunks.ensures.front ∙ ap (λ k. first_chunks 4 k M) count in
+    from_fn_is c.from_fn.ensures.items (λ i. from_be_bytes w32 (get_or parts i [])) (λ i y q k. search rules) j h ∙
+    ap (λ ps. from_be_bytes w32 (get_or ps j [])) chunks ∙ word_is M j h ∙
+    sym (W_first M j h) ∙ ap (W M) (sym (zero-add j))

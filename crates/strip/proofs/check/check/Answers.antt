@@ -1,23 +1,15 @@
-use Rattle.std.proofs.Common.{ℕ, List, length, None, Ok, sym, refl, ap, ◌∙◌, ap₂, zero-add}
-use Rattle.std.proofs.lemmas.Result.{err_from_is_err_and}
+use Rattle.std.proofs.Common.{ℕ, List, length, Ok, sym, ap, ◌∙◌, ap₂, zero-add, rules}
 use Rattle.tree.specs.Meaning.{after}
 use Rattle.tree.specs.Path.{path_nodes, folded}
 use Rattle.tree.proofs.Metering.{after_after}
 use Rattle.strip.specs.Format.{height_in}
-use Rattle.strip.specs.Refusals.{or_else}
-use Rattle.strip.specs.Calls.{Checks}
 use Rattle.strip.proofs.Leading.{never_none, leads_up, nodes_made, accepts}
 use Rattle.strip.proofs.check.check.Goals as goal
 
-pub returns-in_err-number : goal.returns-in_err-number
-returns-in_err-number g c =
+pub returns-in_err-number-clause-full_tree : goal.returns-in_err-number-clause-full_tree
+returns-in_err-number-clause-full_tree g c =
     let maker = c.args.maker.now in
-    let m = g.M.Maker.meaning maker in
-    let bs : List ℕ = c.args.bytes.now in
-    let p = err_from_is_err_and c.from_residual.result c.from_residual.ensures.1 in
-    let refused = ap (λ o. or_else o None) c.in_err-number.ensures in
-    let answer : Checks m bs c.args.root (g.M.Maker.meter maker) (g.M.Maker.meter maker) c.from_residual.result = rw (p.1, p.2) (refused, refl) in
-    record { answer = answer; full_tree = accepts m (g.met.M.Maker.lawful maker) bs c.args.root _ _ c.from_residual.result answer; keeps = refl }
+    accepts (g.M.Maker.meaning maker) (g.met.M.Maker.lawful maker) c.args.bytes.now c.args.root (g.M.Maker.meter maker) (g.M.Maker.meter maker) c.from_residual.result (search rules)
 
 pub unreachable-requires : goal.unreachable-requires
 unreachable-requires g c =
@@ -27,8 +19,8 @@ unreachable-requires g c =
     let none = c.in_default.ensures.value ∙ ap (λ k. folded k c.in_ok-number.field-0.number c.leaf-leaf.result c.in_ok-number.field-0.path.now) c.leaf-leaf.ensures.keeps in
     never_none m (g.met.M.Maker.lawful maker) c.args.bytes.now p.0 _ _ _ p.2 p.3 p.4 c.leaf-leaf.result none
 
-pub returns : goal.returns
-returns g c =
+pub returns-clause-answer : goal.returns-clause-answer
+returns-clause-answer g c =
     let maker = c.args.maker.now in
     let m = g.M.Maker.meaning maker in
     let lawful = g.met.M.Maker.lawful maker in
@@ -41,10 +33,13 @@ returns g c =
     let folds = up.value ∙ ap (λ k. folded k n c.leaf-leaf.result path) made.keeps in
     let top = leads_up m lawful bs p.0 n _ path p.2 p.3 p.4 c.leaf-leaf.result c.in-Some.top made.value folds in
     let joins = ap (λ k. length (path_nodes k path)) made.keeps ∙ nodes_made m lawful bs p.0 n _ path p.2 p.3 p.4 in
-    let verdict = c.same.ensures in
-    let answer : Checks m bs c.args.root (g.M.Maker.meter maker) (g.M.Maker.meter c.fold.new.maker) (Ok c.same.result) = (
+    let verdict = c.same.ensures in (
       p.0,
       (λ yes. sym top ∙ verdict.0 yes, λ e. verdict.1 (top ∙ e)),
       up.counts ∙ ap₂ (after 0) joins made.counts ∙ after_after 1 0 0 (height_in bs) (g.M.Maker.meter maker) ∙ ap (λ k. after 1 k (g.M.Maker.meter maker)) (zero-add (height_in bs)),
-    ) in
-    record { answer = answer; full_tree = accepts m lawful bs c.args.root _ _ (Ok c.same.result) answer; keeps = up.keeps ∙ made.keeps }
+    )
+
+pub returns-clause-full_tree : goal.returns-clause-full_tree
+returns-clause-full_tree g c =
+    let maker = c.args.maker.now in
+    accepts (g.M.Maker.meaning maker) (g.met.M.Maker.lawful maker) c.args.bytes.now c.args.root _ _ (Ok c.same.result) (returns-clause-answer g c)

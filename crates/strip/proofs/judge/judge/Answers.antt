@@ -1,14 +1,22 @@
-use Rattle.std.proofs.Common.{rules}
-use Rattle.strip.specs.Calls.{JudgesByKind}
+use Rattle.std.proofs.Common.{get_or, sym, rules}
+use Rattle.std.proofs.lemmas.Bool.{ne_eqb}
+use Rattle.tree.specs.declared.kind.Kind.TheVariants.{Dummy}
 use Rattle.strip.proofs.Leading.{accepts_sealed, accepts_dummy}
 use Rattle.strip.proofs.judge.judge.Goals as goal
+use Rattle.strip.proofs.judge.judge.Goals.{in-Some+in-Sealed-1, in-None-1}
 
-pub returns-in-2 : goal.returns-in-2
-returns-in-2 c =
-    let judged : JudgesByKind c.args.root.now c.args.bytes.now c.judge_by.result = search rules in
-    record { answer = judged; sealed_trees = accepts_sealed c.args.root.now c.args.bytes.now c.judge_by.result judged; dummy_trees = accepts_dummy c.args.root.now c.args.bytes.now c.judge_by.result judged }
+pub returns-in-Some-Dummy-clause-sealed_trees : goal.returns-in-Some-Dummy-clause-sealed_trees
+returns-in-Some-Dummy-clause-sealed_trees c = accepts_sealed c.args.root.now c.args.bytes.now c.judge_with.result (search rules)
 
-pub returns-in_default : goal.returns-in_default
-returns-in_default c =
-    let judged : JudgesByKind c.args.root.now c.args.bytes.now c.judge_by-in_default.result = search rules in
-    record { answer = judged; sealed_trees = accepts_sealed c.args.root.now c.args.bytes.now c.judge_by-in_default.result judged; dummy_trees = accepts_dummy c.args.root.now c.args.bytes.now c.judge_by-in_default.result judged }
+pub returns-in-Some-Sealed-clause-answer : goal.returns-in-Some-Sealed-clause-answer
+returns-in-Some-Sealed-clause-answer c =
+    elim c.in-Some-Sealed-1.branch [
+      | in-Some+in-Sealed-1 w ↦ search rules
+      | in-None-1 w ↦
+          (let none = c.kind_in.ensures.none (search rules) Dummy in
+          rw (ne_eqb (get_or c.args.bytes.now 1 0) 2 (λ e. none (sym e))) c.judge_with-in-Some-Sealed.ensures.answer)
+    ]
+
+pub returns-in-Some-Sealed-clause-dummy_trees : goal.returns-in-Some-Sealed-clause-dummy_trees
+returns-in-Some-Sealed-clause-dummy_trees c =
+    accepts_dummy c.args.root.now c.args.bytes.now c.judge_with-in-Some-Sealed.result (returns-in-Some-Sealed-clause-answer c)

@@ -1,6 +1,6 @@
 use Rattle.std.proofs.Common.{ℕ, List, refl}
-use Rattle.std.proofs.lemmas.Result.{err_from_is_err_and}
 use Rattle.strip.specs.Format.{height_in}
+use Rattle.strip.proofs.Returning.{err_is}
 use Rattle.strip.proofs.Rules.{fault_is}
 use Rattle.strip.proofs.parse.parse.Goals as goal
 
@@ -8,30 +8,26 @@ pub returns-in_err-height : goal.returns-in_err-height
 returns-in_err-height g c =
     let bs : List ℕ = c.args.bytes.now in
     let m = g.M.Maker.meaning c.args.maker.now in
-    let p = err_from_is_err_and c.from_residual.result c.from_residual.ensures.1 in
-    rw (p.1, p.2) (fault_is m bs c.kind.result (height_in bs) _ _ _ _ c.kind.ensures refl c.in_err-height.ensures refl refl refl)
+    rw (err_is c.from_residual.ensures.1) (fault_is m bs c.kind.result (height_in bs) _ _ _ _ c.kind.ensures refl c.in_err-height.ensures refl refl refl)
 
 pub returns-in_err-token : goal.returns-in_err-token
 returns-in_err-token g c =
     let bs : List ℕ = c.args.bytes.now in
     let m = g.M.Maker.meaning c.args.maker.now in
-    let p = err_from_is_err_and c.from_residual-in_err-token.result c.from_residual-in_err-token.ensures.1 in
-    rw (p.1, p.2) (fault_is m bs c.kind.result (height_in bs) _ _ _ _ c.kind.ensures refl c.in_ok-height.ensures.0 c.in_err-token.ensures refl refl)
+    rw (err_is c.from_residual-in_err-token.ensures.1) (fault_is m bs c.kind.result (height_in bs) _ _ _ _ c.kind.ensures refl c.in_ok-height.ensures.0 c.in_err-token.ensures refl refl)
 
 pub returns-in_err-path : goal.returns-in_err-path
 returns-in_err-path g c =
     let bs : List ℕ = c.args.bytes.now in
     let m = g.M.Maker.meaning c.args.maker.now in
-    let p = err_from_is_err_and c.from_residual-in_err-path.result c.from_residual-in_err-path.ensures.1 in
-    rw (p.1, p.2) (fault_is m bs c.kind.result (height_in bs) _ _ _ _ c.kind.ensures refl c.in_ok-height.ensures.0 c.in_ok-token.ensures.0 c.in_err-path.ensures refl)
+    rw (err_is c.from_residual-in_err-path.ensures.1) (fault_is m bs c.kind.result (height_in bs) _ _ _ _ c.kind.ensures refl c.in_ok-height.ensures.0 c.in_ok-token.ensures.0 c.in_err-path.ensures refl)
 
 pub returns-in_err-only_nodes : goal.returns-in_err-only_nodes
 returns-in_err-only_nodes g c =
     let bs : List ℕ = c.args.bytes.now in
     let m = g.M.Maker.meaning c.args.maker.now in
-    let p = err_from_is_err_and c.from_residual-in_err-only_nodes.result c.from_residual-in_err-only_nodes.ensures.1 in
     let head = c.in_ok-height.ensures in
-    rw (p.1, p.2) (fault_is m bs c.kind.result _ _ _ _ _ c.kind.ensures head.1 head.0 c.in_ok-token.ensures.0 c.in_ok-path.ensures.0 c.in_err-only_nodes.ensures)
+    rw (err_is c.from_residual-in_err-only_nodes.ensures.1) (fault_is m bs c.kind.result _ _ _ _ _ c.kind.ensures head.1 head.0 c.in_ok-token.ensures.0 c.in_ok-path.ensures.0 c.in_err-only_nodes.ensures)
 
 pub returns : goal.returns
 returns g c =

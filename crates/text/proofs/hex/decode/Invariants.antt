@@ -3,5 +3,5 @@ use Rattle.text.specs.Hex.{bytes_of}
 use Rattle.text.proofs.Decoding.{after}
 use Rattle.text.proofs.hex.decode.Given as goal
 
-abbrev pub invariant-loop-i : goal.invariant-loop-i
-invariant-loop-i l = bytes_of l.text ≡ after (vec_items l.bytes) (bytes_of (drop (2 * l.i) l.text))
+abbrev pub invariant-loop-high : goal.invariant-loop-high
+invariant-loop-high l = bytes_of l.text ≡ after (vec_items l.bytes) (bytes_of (drop (2 * l.high-index) l.text))

@@ -3,4 +3,4 @@ use Rattle.hashing.proofs.state.State.round.Goals as goal
 
 pub returns : goal.returns
 unfolding round
-returns c = cc
+returns c t e = cc

@@ -1,40 +1,46 @@
-use Rattle.std.proofs.Common.{ℕ, ◌+◌, sym, ap, ◌∙◌, subst, arith}
-use Rattle.traversal.specs.declared.refusal.Refusal.TheVariants.{Token}
-use Rattle.traversal.specs.Refusals.{draft_lack}
-use Rattle.traversal.specs.Worlds.{world}
-use Rattle.traversal.specs.Units.{pair_of}
-use Rattle.traversal.specs.Calls.{Drafted}
-use Rattle.traversal.proofs.Stepping.{drafted_none, drafted_then, complete, starved, one_made}
+use Rattle.std.proofs.Common.{◌+◌, ◌-◌, arith}
+use Rattle.traversal.specs.Worlds.{world_of}
+use Rattle.traversal.specs.Units.{next_unit}
+use Rattle.traversal.proofs.Lending.{same_none, same_then}
+use Rattle.traversal.proofs.Stepping.{drafted_none, drafted_then, drafted_since, went_since, unit_made, unit_lacked, one_made}
 use Rattle.traversal.proofs.state.Draft.go_on.Goals as goal
 
-pub loop-leaves-init : goal.loop-leaves-init
-loop-leaves-init g c = (drafted_none c.args.self.now (world c.args.table.now (g.M.Maker.meaning c.args.maker.now) (g.M.Maker.meter c.args.maker.now) (g.S.Source.supply c.args.source.now)) (g.met.M.Maker.wraps c.args.maker.now), omega arith)
+pub loop-init : goal.loop-init
+loop-init g c =
+    let d = c.args.self.now in
+    let v = world_of g.M.Maker.meaning g.M.Maker.meter g.S.Source.supply c.args.lent.now in
+    (drafted_since d d v v 0 0 (drafted_none d v (g.met.M.Maker.wraps c.args.lent.now.maker.now)), same_none c.args.lent.now, omega arith)
 
-pub returns-then-missing-eq0 : goal.returns-then-missing-eq0
-returns-then-missing-eq0 g c =
-    let v = world {N = g.row.M-Node.Denot} c.args.table.now (g.M.Maker.meaning c.args.maker.now) (g.M.Maker.meter c.args.maker.now) (g.S.Source.supply c.args.source.now) in
-    let u = world {N = g.row.M-Node.Denot} c.loop-leaves.table (g.M.Maker.meaning c.loop-leaves.maker) (g.M.Maker.meter c.loop-leaves.maker) (g.S.Source.supply c.loop-leaves.source) in
-    complete c.args.self.now c.loop-leaves.self v u c.args.budget c.loop-leaves.leaves c.loop-leaves.joins c.loop-leaves.invariant.0 c.loop-leaves.invariant.1 (sym c.missing.ensures ∙ c.if-missing-eq0.true)
-
-pub returns-in_default : goal.returns-in_default
-returns-in_default g c =
-    let (lacks, same, still) = c.in_default.ensures in
-    let v = world {N = g.row.M-Node.Denot} c.args.table.now (g.M.Maker.meaning c.args.maker.now) (g.M.Maker.meter c.args.maker.now) (g.S.Source.supply c.args.source.now) in
-    let u = world {N = g.row.M-Node.Denot} c.loop-leaves.table (g.M.Maker.meaning c.loop-leaves.maker) (g.M.Maker.meter c.loop-leaves.maker) (g.S.Source.supply c.loop-leaves.source) in
-    let w = world {N = g.row.M-Node.Denot} c.unit.new.table (g.M.Maker.meaning c.unit.new.maker) (g.M.Maker.meter c.unit.new.maker) (g.S.Source.supply c.unit.new.source) in
-    let fault = c.in_default.field-0.unit.missing in
-    starved c.args.self.now c.loop-leaves.self c.unit.new.self v u w c.args.budget c.loop-leaves.leaves c.loop-leaves.joins (Token (draft_lack fault)) c.loop-leaves.invariant.0 c.loop-leaves.invariant.1 lacks same still
-
-pub loop-leaves-preserved : goal.loop-leaves-preserved
-loop-leaves-preserved g c =
-    let v = world {N = g.row.M-Node.Denot} c.args.table.now (g.M.Maker.meaning c.args.maker.now) (g.M.Maker.meter c.args.maker.now) (g.S.Source.supply c.args.source.now) in
-    let u = world {N = g.row.M-Node.Denot} c.loop-leaves.table (g.M.Maker.meaning c.loop-leaves.maker) (g.M.Maker.meter c.loop-leaves.maker) (g.S.Source.supply c.loop-leaves.source) in
-    let w = world {N = g.row.M-Node.Denot} c.unit.new.table (g.M.Maker.meaning c.unit.new.maker) (g.M.Maker.meter c.unit.new.maker) (g.S.Source.supply c.unit.new.source) in
-    let pair = sym c.pair-leaf.ensures in
-    let one = one_made c.in-Ok.made in
-    let first = ap (λ (p : ℕ × ℕ). p.0) pair in
-    let second = ap (λ (p : ℕ × ℕ). p.1) pair in (
-      subst (λ (p : ℕ × ℕ). Drafted c.args.self.now v (c.loop-leaves.leaves + p.0) (c.loop-leaves.joins + p.1) c.unit.new.self w) pair
-          (drafted_then c.args.self.now c.loop-leaves.self c.unit.new.self v u w c.loop-leaves.leaves c.loop-leaves.joins (pair_of c.in-Ok.made).0 (pair_of c.in-Ok.made).1 c.loop-leaves.invariant.0 c.in-Ok.ensures.1),
-      omega arith,
+pub loop-preserved : goal.loop-preserved
+loop-preserved g c =
+    let d = c.args.self.now in
+    let e = c.loop.self in
+    let f = c.unit.new.self in
+    let v = world_of g.M.Maker.meaning g.M.Maker.meter g.S.Source.supply c.args.lent.now in
+    let w = world_of g.M.Maker.meaning g.M.Maker.meter g.S.Source.supply c.loop.lent in
+    let x = world_of g.M.Maker.meaning g.M.Maker.meter g.S.Source.supply c.unit.new.lent in
+    let (drafted, same, made) = c.loop.invariant in
+    let a = e.hash.leaves - d.hash.leaves in
+    let b = e.hash.joins - d.hash.joins in
+    let i = (next_unit e.hash).0 in
+    let j = (next_unit e.hash).1 in
+    let unit = unit_made c.unit.result e f w x c.if-is_err.ensures.value c.unit.ensures.unit in
+    let one = one_made e.hash in (
+      drafted_since d f v x (a + i) (b + j) (drafted_then d e f v w x a b i j drafted unit),
+      same_then c.args.lent.now c.loop.lent c.unit.new.lent same c.unit.ensures.same_loans,
+      omega (arith, unit.advanced.leaves_made, unit.advanced.joins_made),
     )
+
+pub returns-then-is_err-clause-went_on : goal.returns-then-is_err-clause-went_on
+returns-then-is_err-clause-went_on g c =
+    let d = c.args.self.now in
+    let e = c.loop.self in
+    let f = c.unit.new.self in
+    let v = world_of g.M.Maker.meaning g.M.Maker.meter g.S.Source.supply c.args.lent.now in
+    let w = world_of g.M.Maker.meaning g.M.Maker.meter g.S.Source.supply c.loop.lent in
+    let x = world_of g.M.Maker.meaning g.M.Maker.meter g.S.Source.supply c.unit.new.lent in
+    let (drafted, same, made) = c.loop.invariant in
+    let a = e.hash.leaves - d.hash.leaves in
+    let b = e.hash.joins - d.hash.joins in
+    let short = unit_lacked c.unit.result d e f v w x c.args.count a b drafted (omega (arith, drafted.advanced.leaves_made, drafted.advanced.joins_made)) c.if-is_err.ensures.value c.unit.ensures.unit in
+    went_since d f v x c.args.count a b short

@@ -1,13 +1,11 @@
-use Rattle.std.proofs.Common.{◌+◌, ◌-◌, ◌≤◌}
-use Rattle.traversal.specs.Worlds.{world}
-use Rattle.traversal.specs.Calls.{Drafted}
+use Rattle.std.proofs.Common.{◌≡◌, ◌+◌, ◌-◌}
+use Rattle.traversal.specs.Worlds.{world_of, SameLoans}
+use Rattle.traversal.specs.Calls.{units, Drafted}
 use Rattle.traversal.proofs.state.Draft.go_on.Given as goal
 
-abbrev pub invariant-loop-leaves : goal.invariant-loop-leaves
-invariant-loop-leaves g l =
-    Drafted l.initial.self (world l.initial.table (g.M.Maker.meaning l.initial.maker) (g.M.Maker.meter l.initial.maker) (g.S.Source.supply l.initial.source)) l.leaves l.joins
-    l.self (world l.table (g.M.Maker.meaning l.maker) (g.M.Maker.meter l.maker) (g.S.Source.supply l.source))
-    × (l.leaves + l.joins ≤ l.budget)
-
-abbrev pub decreases-loop-leaves : goal.decreases-loop-leaves
-decreases-loop-leaves g l = l.budget - (l.leaves + l.joins)
+abbrev pub invariant-loop : goal.invariant-loop
+invariant-loop g l =
+    let world = world_of g.M.Maker.meaning g.M.Maker.meter g.S.Source.supply in
+    Drafted l.initial.self (world l.initial.lent) (l.self.hash.leaves - l.initial.self.hash.leaves) (l.self.hash.joins - l.initial.self.hash.joins) l.self (world l.lent)
+    × SameLoans l.initial.lent l.lent
+    × (units l.self ≡ units l.initial.self + l.counter)

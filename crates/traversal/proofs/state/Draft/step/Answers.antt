@@ -1,47 +1,36 @@
-use Rattle.std.proofs.Common.{◌≡◌, ℕ, ◌+◌, ◌-◌, ◌<◌, ◌≤◌, length, sym, ◌∙◌, subst, inl, inr, arith}
-use Rattle.std.proofs.lemmas.Result.{err_from_is_err_and}
+use Rattle.std.proofs.Common.{◌≡◌, ℕ, ◌+◌, ◌-◌, ◌≤◌, min, length, sym, ◌∙◌, subst, arith}
 use Rattle.tree.specs.Geometry.{table_size}
-use Rattle.traversal.specs.Worlds.{world}
-use Rattle.traversal.specs.Units.{pair_of}
+use Rattle.traversal.specs.Worlds.{world_of}
+use Rattle.traversal.specs.Units.{next_unit}
 use Rattle.traversal.specs.Calls.{units, units_in_all, WentOn}
-use Rattle.traversal.proofs.Stepping.{nothing_due, first_unit, drafted_none, went_on, complete, spent, one_made}
+use Rattle.traversal.proofs.Stepping.{nothing_due, first_unit, drafted_none, went_on, went_since, within_budget, spent, one_made}
 use Rattle.traversal.proofs.state.Draft.step.Goals as goal
-use Rattle.traversal.proofs.state.Draft.step.Goals.{then-budget-eq0-via-then-budget-eq0, then-budget-eq0-via-else-budget-eq0+then-missing-eq0}
 
-pub returns-then-budget-eq0 : goal.returns-then-budget-eq0
-returns-then-budget-eq0 g c =
+pub returns-then-units-eq0-clause-stepped : goal.returns-then-units-eq0-clause-stepped
+returns-then-units-eq0-clause-stepped g c =
     let d = c.args.self.now in
-    let v = world c.args.table.now (g.M.Maker.meaning c.args.maker.now) (g.M.Maker.meter c.args.maker.now) (g.S.Source.supply c.args.source.now) in
-    let none = drafted_none d v (g.met.M.Maker.wraps c.args.maker.now) in
-    let enough : table_size d.height d.subtree ≤ length c.args.table.now = omega (arith, d.shaped.2) in
-    elim c.then-budget-eq0.branch [
-      | then-budget-eq0-via-then-budget-eq0 w ↦ (nothing_due d (length c.args.table.now) c.args.budget (g.S.Source.supply c.args.source.now) enough (inl w.if-budget-eq0.true), spent d d v v c.args.budget 0 0 none (omega arith) (omega (arith, w.if-budget-eq0.true)))
-      | then-budget-eq0-via-else-budget-eq0+then-missing-eq0 w ↦
-          let full : units_in_all d - units d ≡ 0 = sym w.missing.ensures ∙ w.if-missing-eq0.true in
-          (nothing_due d (length c.args.table.now) c.args.budget (g.S.Source.supply c.args.source.now) enough (inr full), complete d d v v c.args.budget 0 0 none (omega arith) full)
-    ]
+    let v = world_of g.M.Maker.meaning g.M.Maker.meter g.S.Source.supply c.args.lent.now in
+    let none = drafted_none d v (g.met.M.Maker.wraps c.args.lent.now.maker.now) in
+    let enough : table_size d.shape.height d.shape.subtree ≤ length v.table = omega (arith, d.shape.shaped.2) in
+    let least : 0 ≡ min c.args.budget (units_in_all d - units d) = omega arith in
+    (nothing_due d (length v.table) c.args.budget v.supply enough least, within_budget d d v v c.args.budget 0 0 0 least (spent d d v v 0 0 0 none (omega arith) (omega arith)))
 
-pub returns-in_err-first : goal.returns-in_err-first
-returns-in_err-first g c =
+pub returns-clause-stepped : goal.returns-clause-stepped
+returns-clause-stepped g c =
     let d = c.args.self.now in
-    let p = err_from_is_err_and c.from_residual.result c.from_residual.ensures.1 in
-    let enough : table_size d.height d.subtree ≤ length c.args.table.now = omega (arith, d.shaped.2) in
-    let few : units d < units_in_all d = omega (arith, c.missing.ensures) in
-    let (lacks, same, still) = c.in_err-first.ensures in
-    rw (p.1, p.2) (first_unit d (length c.args.table.now) c.args.budget (g.S.Source.supply c.args.source.now) enough (omega arith) few ∙ lacks, same, still)
-
-pub returns : goal.returns
-returns g c =
-    let d = c.args.self.now in
-    let enough : table_size d.height d.subtree ≤ length c.args.table.now = omega (arith, d.shaped.2) in
-    let few : units d < units_in_all d = omega (arith, c.missing.ensures) in
-    let (fine, drafted) = c.in_ok-first.ensures in
-    let v = world c.args.table.now (g.M.Maker.meaning c.args.maker.now) (g.M.Maker.meter c.args.maker.now) (g.S.Source.supply c.args.source.now) in
-    let w = world c.go_on-leaves.new.table (g.M.Maker.meaning c.go_on-leaves.new.maker) (g.M.Maker.meter c.go_on-leaves.new.maker) (g.S.Source.supply c.go_on-leaves.new.source) in
-    let u = world {N = g.row.M-Node.Denot} c.unit.new.table (g.M.Maker.meaning c.unit.new.maker) (g.M.Maker.meter c.unit.new.maker) (g.S.Source.supply c.unit.new.source) in
-    let rest = c.go_on-leaves.result in
-    let made = pair_of c.in_ok-first.first in (
-      first_unit d (length c.args.table.now) c.args.budget (g.S.Source.supply c.args.source.now) enough (omega arith) few ∙ fine,
-      subst (λ (p : ℕ × ℕ). WentOn d v c.args.budget (p.0 + rest.0) (p.1 + rest.1) c.go_on-leaves.new.self w) (sym c.pair-leaf.ensures)
-          (went_on d c.unit.new.self c.go_on-leaves.new.self v u w c.args.budget made.0 made.1 rest.0 rest.1 (omega arith) (one_made c.in_ok-first.first) drafted c.go_on-leaves.ensures),
+    let e = c.unit.new.self in
+    let f = c.go_on.new.self in
+    let v = world_of g.M.Maker.meaning g.M.Maker.meter g.S.Source.supply c.args.lent.now in
+    let u = world_of g.M.Maker.meaning g.M.Maker.meter g.S.Source.supply c.unit.new.lent in
+    let w = world_of g.M.Maker.meaning g.M.Maker.meter g.S.Source.supply c.go_on.new.lent in
+    let (fine, first) = c.in_ok-unit.ensures.unit in
+    let enough : table_size d.shape.height d.shape.subtree ≤ length v.table = omega (arith, d.shape.shaped.2) in
+    let made = next_unit d.hash in
+    let count = c.min-units.result in
+    let i = f.hash.leaves - e.hash.leaves in
+    let j = f.hash.joins - e.hash.joins in
+    let all = went_on d e f v u w count made.0 made.1 i j (omega arith) (one_made d.hash) first c.go_on.ensures.went_on in
+    let within = within_budget d f v w c.args.budget count (made.0 + i) (made.1 + j) (omega arith) all in (
+      first_unit d (length v.table) c.args.budget v.supply enough (omega arith) (omega arith) ∙ fine,
+      subst (λ (p : ℕ × ℕ). WentOn d v c.args.budget p.0 p.1 f w) (sym c.since.ensures) (went_since d f v w c.args.budget (made.0 + i) (made.1 + j) within),
     )

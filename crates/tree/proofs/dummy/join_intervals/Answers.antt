@@ -1,5 +1,0 @@
-use Rattle.tree.specs.Aligning.{fits}
-use Rattle.tree.proofs.dummy.join_intervals.Goals as goal
-
-pub leaves_below-requires : goal.leaves_below-requires
-leaves_below-requires c = (fits _ _ c.args.left.whole).0
