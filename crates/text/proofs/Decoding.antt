@@ -1,6 +1,6 @@
 -- Decoding two digits at a time.
-use Rattle.std.proofs.Common.{◌≡◌, ℕ, ◌+◌, ◌*◌, ◌/◌, ◌%◌, ◌<◌, ◌≤◌, List, [], ◌∷◌, ◌++◌, length, get_or, take, drop, Some, None, Err, Option, ok_or, sym, refl, ap, ◌∙◌, ap₂, arith}
-use Rattle.std.proofs.lemmas.List.{append_assoc, append-nil, drop_more, drop_all}
+use Rattle.std.proofs.Common.{◌≡◌, ℕ, ◌+◌, ◌*◌, ◌/◌, ◌%◌, ◌<◌, List, [], ◌∷◌, ◌++◌, length, get_or, take, drop, Some, None, Err, Option, ok_or, sym, refl, ap, ◌∙◌, ap₂, arith}
+use Rattle.std.proofs.lemmas.List.{append_assoc, drop_more}
 use Rattle.std.specs.Simd.{first_chunks}
 use Rattle.strip.specs.Hex.{digit_value}
 use Rattle.text.specs.declared.hex.NoBytes.{NoBytes}
@@ -56,7 +56,3 @@ module _ (text : List ℕ) (pairs : List (List ℕ)) (cut : pairs ≡ first_chun
   pub pair_more : (done : List ℕ) (high low : ℕ) → bytes_of text ≡ after done (bytes_of (drop (2 * i) text)) → Some high ≡ digit_value (get_or (get_or pairs i []) 0 0) → Some low ≡ digit_value (get_or (get_or pairs i []) 1 0) → bytes_of text ≡ after (done ++ (16 * high + low) ∷ []) (bytes_of (drop (2 * (i + 1)) text))
   pair_more done high low so_far is_high is_low =
       pair_read done (Some high) (Some low) so_far is_high is_low ∙ push_before done high low (bytes_of (drop (2 * (i + 1)) text))
-
-pub all_read : (text done : List ℕ) (i : ℕ) → length text / 2 ≤ i → length text % 2 ≡ 0 → bytes_of text ≡ after done (bytes_of (drop (2 * i) text)) → bytes_of text ≡ Some done
-all_read text done i over even so_far =
-    so_far ∙ ap (λ l. after done (bytes_of l)) (drop_all (2 * i) text (omega arith)) ∙ ap Some (append-nil done)

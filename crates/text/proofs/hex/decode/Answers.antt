@@ -1,10 +1,10 @@
 use Rattle.std.proofs.Common.{ℕ, ◌+◌, ◌*◌, [], ◌∷◌, length, drop, Some, None, vec_items, sym, refl, ap, ◌∙◌, arith}
-use Rattle.std.proofs.lemmas.Bool.{eqb-false, eqb-true}
+use Rattle.std.proofs.lemmas.Bool.{eqb-false}
 use Rattle.std.proofs.lemmas.Slice.{pushed}
 use Rattle.strip.proofs.Returning.{err_is}
 use Rattle.text.specs.declared.hex.NoBytes.TheVariants.{NotHex}
 use Rattle.text.specs.Hex.{bytes_of}
-use Rattle.text.proofs.Decoding.{after, odd_none, no_digit, pair_read, pair_more, all_read}
+use Rattle.text.proofs.Decoding.{after, odd_none, no_digit, pair_read, pair_more}
 use Rattle.text.proofs.hex.decode.Goals as goal
 
 pub returns-then-not-is_empty : goal.returns-then-not-is_empty
@@ -28,8 +28,3 @@ loop-high-preserved c =
     let more = pair_more c.args.text.now c.as_chunks.result.0.now c.as_chunks.ensures.front c.loop-high.high-index (omega arith) (vec_items c.loop-high.bytes) high low c.loop-high.invariant (sym c.in_ok-high.ensures.ok_part ∙ c.digit.ensures.value) (sym c.in_ok-low.ensures.ok_part ∙ c.digit-in-loop-high.ensures.value) in
     let now_is = pushed ((16 * high + low) ∷ []) refl c.in_ok-push.was c.push.ensures.items in
     more ∙ ap (λ l. after l (bytes_of (drop (2 * (c.loop-high.high-index + 1)) c.args.text.now))) (sym now_is)
-
-pub returns : goal.returns
-returns c =
-    let none = eqb-true (length c.as_chunks.result.1.now) 0 (sym c.is_empty.ensures ∙ c.if-not-is_empty.false) in
-    all_read c.args.text.now (vec_items c.loop-high.bytes) c.loop-high.high-index (omega arith) (omega arith) c.loop-high.invariant

@@ -1,22 +1,11 @@
-use Rattle.std.proofs.Common.{◌%◌, [], ◌∷◌, length, sym, refl, ap, ◌∙◌, length-append}
+use Rattle.std.proofs.Common.{◌%◌, [], ◌∷◌, length, sym, ap, ◌∙◌, length-append}
 use Rattle.std.specs.Bool.{then_some}
 use Rattle.tree.specs.Meaning.{after}
 use Rattle.tree.specs.Path.{parent, front_node}
-use Rattle.tree.proofs.Metering.{after_after, after_none}
-use Rattle.tree.proofs.Folding.{climbed_none, climbed_more, folded_stop, folded_all, folded_end}
+use Rattle.tree.proofs.Metering.{after_after}
+use Rattle.tree.proofs.Folding.{climbed_more, folded_stop, folded_all, folded_end}
 use Rattle.tree.proofs.Nodes.{answers_root}
 use Rattle.tree.proofs.fold.fold.Goals as goal
-
-pub loop-bytes-init : goal.loop-bytes-init
-loop-bytes-init g c =
-    let m = g.M.Maker in
-    let rest = ap (λ i. i.rest.now) c.into_iter-bytes-iterator.ensures.into_iter_gives ∙ c.chunks_exact-nodes.ensures.rest in
-    let size = ap (λ i. i.size) c.into_iter-bytes-iterator.ensures.into_iter_gives ∙ c.chunks_exact-nodes.ensures.size ∙ c.width.ensures in (
-      refl,
-      sym (after_none (m.meter c.args.maker.now) (g.met.M.Maker.wraps c.args.maker.now)),
-      size,
-      rw rest (climbed_none (m.meaning c.args.maker.now) c.args.number c.args.leaf c.args.path.now),
-    )
 
 pub returns-in_err-sibling : goal.returns-in_err-sibling
 returns-in_err-sibling g c =
