@@ -26,7 +26,8 @@ const CELLS: usize = 19;
 /// Which token is torn or beyond the source.
 const LACKED: u8 = 5;
 
-/// Heights, cells of the table and tokens of the source that a draft is begun with.
+/// Heights, cells of the table and tokens of the source that a draft is begun with: a row of figures each, which is
+/// taken apart where it is read.
 const BEGINS: [(u32, u32, usize, u8); 14] = [
     (4, 2, CELLS, TOKENS),
     (0, 1, CELLS, TOKENS),

@@ -40,7 +40,7 @@ impl<'a, M: Tried, S: Source + Drop> Trial<'a, M, S> {
             rt,
             heights,
             table: vec![in rt.alloc(); M::FILLER; cells]?,
-            maker: M::fresh(),
+            maker: M::default(),
             source,
         })
     }

@@ -6,32 +6,21 @@ use tree::sealed::Sealed;
 use tree::span::Span;
 
 /// What the drafts here need of a maker beside its calls.
-pub trait Tried: Maker + Drop {
+pub trait Tried: Maker + Default + Drop {
     const KIND: Kind;
 
     /// What the cells of a table hold before a draft.
     const FILLER: Self::Node;
-
-    /// A maker that has made nothing.
-    fn fresh() -> Self;
 }
 
 impl Tried for Dummy {
     const KIND: Kind = Kind::Dummy;
 
     const FILLER: Span = Span::Broken;
-
-    fn fresh() -> Dummy {
-        Dummy::new()
-    }
 }
 
 impl Tried for Sealed {
     const KIND: Kind = Kind::Sealed;
 
     const FILLER: Digest = Digest { bytes: [0xaa; 32] };
-
-    fn fresh() -> Sealed {
-        Sealed::new()
-    }
 }

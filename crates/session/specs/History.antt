@@ -9,6 +9,7 @@ use Rattle.traversal.specs.Worlds.{World}
 use Rattle.traversal.specs.Calls.{Stepped, Turned}
 use Rattle.session.specs.declared.held.Held.{Held}
 use Rattle.session.specs.declared.held.Held.TheVariants.{Drafting, Running}
+use Rattle.session.specs.declared.held.Lacking.{Lacking}
 use Rattle.session.specs.declared.held.Ask.{Ask}
 use Rattle.session.specs.declared.held.Ask.TheVariants.{Step as ask_step, Turn as ask_turn}
 use Rattle.session.specs.declared.held.Call.{Call}
@@ -25,9 +26,9 @@ turned (Ok run) = Running run
 turned (Err back) = Drafting back.draft
 
 -- what it answers: nothing more, or how many units are missing
-abbrev pub turn_answer : Result Run Incomplete → Result Unit ℕ
+abbrev pub turn_answer : Result Run Incomplete → Result Unit Lacking
 turn_answer (Ok run) = Ok tt
-turn_answer (Err back) = Err back.missing
+turn_answer (Err back) = Err (record { units = back.missing })
 
 pub data History {N : Type 0} : Held → World N → List Call → Held → World N → Type 0 where
   stop : {z : Held} {w : World N} → History z w [] z w

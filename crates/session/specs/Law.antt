@@ -10,6 +10,7 @@ use Rattle.traversal.specs.Plots.{row_start}
 use Rattle.traversal.specs.Worlds.{World, tokens}
 use Rattle.traversal.specs.Calls.{made_so_far, totals}
 use Rattle.session.specs.declared.held.Held.{Held}
+use Rattle.session.specs.declared.held.Lacking.{Lacking}
 use Rattle.session.specs.declared.held.Held.TheVariants.{Drafting, Running}
 use Rattle.session.specs.declared.held.Call.{Call}
 use Rattle.session.specs.declared.held.Call.TheVariants.{Step, Turn}
@@ -44,9 +45,9 @@ Unrefused (Step budget (Err r) ∷ calls) = ⊥
 Unrefused (Turn answer ∷ calls) = Unrefused calls
 
 -- a turn is accepted if all nodes are made, and refused with the number of those that are missing
-abbrev pub TurnAt : ℕ → ℕ → Result Unit ℕ → Type 0
+abbrev pub TurnAt : ℕ → ℕ → Result Unit Lacking → Type 0
 TurnAt all made (Ok _) = made ≡ all
-TurnAt all made (Err missing) = (0 < missing) × (made + missing ≡ all)
+TurnAt all made (Err lacking) = (0 < lacking.units) × (made + lacking.units ≡ all)
 
 -- so is each turn of a list, where some nodes were made before
 abbrev pub TurnsAt : ℕ → ℕ → List Call → Type 0

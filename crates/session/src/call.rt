@@ -3,7 +3,7 @@ ghost use Rattle.traversal.specs.Worlds.{world_of, SameLoans};
 ghost use Rattle.session.specs.History.{History, asked};
 ghost use Rattle.session.specs.declared.held.Held.TheVariants.{Drafting};
 
-use crate::held::{Ask, Call, Held};
+use crate::held::{Ask, Call, Held, Lacking};
 use traversal::lent::Lent;
 use traversal::outcome::Incomplete;
 use traversal::state::Draft;
@@ -26,7 +26,7 @@ pub fn call<M: Maker, S: Source>(mut draft: Draft, ask: Ask, lent: &mut Lent<M, 
             Err(Incomplete { draft, missing }) => (
                 Held::Drafting(draft),
                 Call::Turn {
-                    answer: Err(missing),
+                    answer: Err(Lacking { units: missing }),
                 },
             ),
         },

@@ -14,6 +14,12 @@ pub enum Ask {
     Turn,
 }
 
+/// A turn was refused: the draft lacks so many units. The draft itself is handed back, and no part of what is logged.
+#[derive(Clone, Copy, Debug, PartialEq, Eq)]
+pub struct Lacking {
+    pub units: u64,
+}
+
 /// A call that was made, with what it answered.
 #[derive(Clone, Copy, Debug, PartialEq, Eq)]
 pub enum Call {
@@ -21,8 +27,7 @@ pub enum Call {
         budget: u64,
         answer: Result<(u64, u64), Refusal>,
     },
-    /// Refused with the number of units that are missing.
     Turn {
-        answer: Result<(), u64>,
+        answer: Result<(), Lacking>,
     },
 }

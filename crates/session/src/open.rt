@@ -9,7 +9,7 @@ use tree::maker::Maker;
 use tree::source::Source;
 
 /// Begins a draft, and promises what every list of calls on it comes to. It takes the parts by `&`, since
-/// `Lent` would ask for more.
+/// `Lent` would ask for more, and the heights as `Draft::begin` does.
 pub fn open<M: Maker, S: Source>(
     height: u32,
     subtree: u32,

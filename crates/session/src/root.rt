@@ -11,7 +11,8 @@ use traversal::state::{Draft, Run};
 use tree::maker::Maker;
 use tree::source::Source;
 
-/// Drafts a whole tree: answers its root, and the leaves and the joins made.
+/// Drafts a whole tree: answers its root, and the leaves and the joins made. It takes the heights as `Draft::begin`
+/// does.
 pub fn root<M: Maker, S: Source>(
     height: u32,
     subtree: u32,

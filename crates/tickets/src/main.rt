@@ -15,7 +15,8 @@ use tree::source::Source;
 /// The bits that are inverted in each byte, one at a time.
 const BITS: [u8; 2] = [1, 64];
 
-/// Heights of trees and of their subtrees, legal and not.
+/// Heights of trees and of their subtrees, legal and not: a row of figures each, which is taken apart where it is
+/// read.
 const HEIGHTS: [(u32, u32); 8] = [
     (1, 1),
     (4, 1),

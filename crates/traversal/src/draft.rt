@@ -17,7 +17,8 @@ use tree::source::Source;
 
 impl Draft {
     /// Begins the initialization of a traversal: of the tree of a height over the tokens of a source, with
-    /// subtrees of another height, in a table of cells. Touches no cell.
+    /// subtrees of another height, in a table of cells. Touches no cell. The heights are two numbers until they are
+    /// judged, and then a `Shape`.
     pub fn begin<N, S: Source>(
         height: u32,
         subtree: u32,

@@ -41,7 +41,8 @@ pub enum Refusal {
 
 impl Refusal {
     /// The number by which a refusal is known outside. It is one fact of a refusal, not the refusal in another
-    /// form, so this is no conversion.
+    /// form, so this is no conversion. The numbers stand in one list for each type, some as in the layer below:
+    /// with names from there the list would be no plainer.
     pub fn number(self) -> u8
         ensures { result ≡ (numbered self).0 }
     {

@@ -9,16 +9,27 @@ pub struct Counter {
     ghost fits: { (leaves < 2 ^ 64) × (joins < 2 ^ 64) },
 }
 
+// Written out, since no `Default` is derived where a ghost field is.
+impl Default for Counter {
+    ghost use Rattle.tree.specs.Counting.{metered};
+
+    ghost is_default = { λ c. metered c ≡ reading 0 0 };
+
+    fn default() -> Counter {
+        Counter {
+            leaves: 0,
+            joins: 0,
+        }
+    }
+}
+
 impl Counter {
     ghost use Rattle.tree.specs.Counting.{metered};
 
     pub fn new() -> Counter
         ensures { metered result ≡ reading 0 0 }
     {
-        Counter {
-            leaves: 0,
-            joins: 0,
-        }
+        Counter::default()
     }
 
     /// Two calls and not one for any counts, since `count_leaf()` says more than `count(1, 0)`.

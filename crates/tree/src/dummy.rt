@@ -13,7 +13,7 @@ use crate::span::{Interval, Span};
 
 /// The dummy maker: hashes nothing, so that a run can be tried without a licence, and its nodes tell
 /// where in the tree they stand.
-#[derive(Drop)]
+#[derive(Default, Drop)]
 pub struct Dummy {
     counter: Counter,
 }
@@ -23,9 +23,7 @@ impl Dummy {
         ensures starts { metered result.counter ≡ reading 0 0 }
         ensures one_spelling { OneSpelling dummy_meaning }
     {
-        Dummy {
-            counter: Counter::new(),
-        }
+        Dummy::default()
     }
 }
 

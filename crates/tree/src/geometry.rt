@@ -27,7 +27,8 @@ pub struct Shape {
 impl Shape {
     ghost use Rattle.tree.specs.Shapes.{Shapes};
 
-    /// The shape for two heights.
+    /// The shape for two heights. They come as two numbers, here and in the calls that hand them on: a struct for
+    /// them would hold nothing that is true of them before they are judged, and would be one more type to build.
     pub fn new(height: u32, subtree: u32) -> Result<Shape, Refusal>
         ensures { Shapes height subtree result }
     {
@@ -45,7 +46,7 @@ impl Shape {
     }
 }
 
-/// How many cells the table of a traversal has.
+/// How many cells the table of a traversal has, for two heights that are not judged yet.
 pub fn size(height: u32, subtree: u32) -> Result<usize, Refusal>
     ensures { Sizes height subtree result }
 {
@@ -59,11 +60,11 @@ fn cells(height: usize, subtree: usize) -> usize
     ensures { result ≡ table_size height subtree }
 {
     let levels = height / subtree;
-    let each = (2 << subtree) - 2;
-    let subtrees = 1 + (2 * levels - 1) * each;
+    let section = (2 << subtree) - 2;
+    let before_tails = 1 + (2 * levels - 1) * section;
     if levels >= 2 {
-        subtrees + (levels - 2) + subtree * ((levels - 1) * (levels - 2) / 2)
+        before_tails + (levels - 2) + subtree * ((levels - 1) * (levels - 2) / 2)
     } else {
-        subtrees
+        before_tails
     }
 }

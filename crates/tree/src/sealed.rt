@@ -20,7 +20,7 @@ pub(crate) const WIDTH: usize = 32;
 const PAIR: usize = 2 * WIDTH;
 
 /// The sealed maker: plain SHA-256, of the token for a leaf and of both children for a join.
-#[derive(Drop)]
+#[derive(Default, Drop)]
 pub struct Sealed {
     counter: Counter,
 }
@@ -30,9 +30,7 @@ impl Sealed {
         ensures starts { metered result.counter ≡ reading 0 0 }
         ensures one_spelling { OneSpelling sealed_meaning }
     {
-        Sealed {
-            counter: Counter::new(),
-        }
+        Sealed::default()
     }
 }
 
