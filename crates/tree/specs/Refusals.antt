@@ -24,6 +24,9 @@ spaced (n ∷ ns) = codes " " ++ (decimal n ++ spaced ns)
 abbrev pub refusal_text : Refusal → List ℕ
 refusal_text r = codes "refused" ++ spaced ((numbered r).0 ∷ (numbered r).1)
 
+abbrev pub short_text : TooShort → List ℕ
+short_text e = codes "refused" ++ spaced ((short_numbered e).0 ∷ (short_numbered e).1)
+
 -- the word for why a token is missing
 abbrev pub cause_text : Cause → List ℕ
 cause_text Torn = codes "torn"

@@ -124,7 +124,8 @@ impl From<Span> for [u8; WIDTH] {
     }
 }
 
-/// The node that bytes are, if they are one. It is no `TryFrom`: it answers an `Option`, as `Maker::read` does.
+/// The node that bytes are, if they are one. A `TryFrom` would be no plainer: `Maker::read` wants an `Option`, and there
+/// is nothing to tell of bytes that are no node.
 fn read_span(bytes: &[u8; WIDTH]) -> Option<Span>
     ensures { result ≡ read_span bytes.now }
 {

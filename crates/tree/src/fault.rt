@@ -1,6 +1,7 @@
 ghost use Rattle.std.specs.Prelude.{◌≡◌, Some};
-ghost use Rattle.tree.specs.Refusals.{short_numbered, cause_text};
+ghost use Rattle.tree.specs.Refusals.{short_numbered, short_text, cause_text};
 
+use std::error::Error;
 use std::fmt;
 
 /// A slice is too short for what should go into it or come out of it.
@@ -18,6 +19,17 @@ impl TooShort {
         7
     }
 }
+
+// Printed as the programs answer it: the refusal's number and its value.
+impl fmt::Display for TooShort {
+    ghost output = { λ short. Some (short_text short) };
+
+    fn fmt<W: fmt::Write>(&self, f: &mut fmt::Formatter<W>) -> fmt::Result {
+        write!(f, "refused {} {}", self.number(), self.needed)
+    }
+}
+
+impl Error for TooShort {}
 
 /// Why a source gives no token: the token is torn, or its number is past the source's end.
 #[derive(Clone, Copy, Debug, PartialEq, Eq)]

@@ -8,10 +8,19 @@ use crate::refusal::Refusal;
 /// The greatest height of a subtree.
 const GREATEST: u32 = 10;
 
+/// The height of a tree and that of the subtrees of a traversal. Nothing is true of them yet: there may be no such
+/// tree, and the tree may have no such subtrees.
+#[derive(Clone, Copy, Debug, PartialEq, Eq)]
+pub struct Heights {
+    pub height: u32,
+    pub subtree: u32,
+}
+
 /// Whether a tree of this height has subtrees of that height.
-pub fn is_subtree(height: u32, subtree: u32) -> bool
-    ensures { result ≡ legal_subtree height subtree }
+pub fn is_subtree(heights: Heights) -> bool
+    ensures { result ≡ legal_subtree heights.height heights.subtree }
 {
+    let Heights { height, subtree } = heights;
     (1..=GREATEST).contains(&subtree) && height % subtree == 0
 }
 
@@ -27,39 +36,40 @@ pub struct Shape {
 impl Shape {
     ghost use Rattle.tree.specs.Shapes.{Shapes};
 
-    /// The shape for two heights. They come as two numbers, here and in the calls that hand them on: a struct for
-    /// them would hold nothing that is true of them before they are judged, and would be one more type to build.
-    pub fn new(height: u32, subtree: u32) -> Result<Shape, Refusal>
-        ensures { Shapes height subtree result }
+    /// The shape for two heights.
+    pub fn new(heights: Heights) -> Result<Shape, Refusal>
+        ensures { Shapes heights.height heights.subtree result }
     {
+        let Heights { height, subtree } = heights;
         if !is_height(height) {
             return Err(Refusal::Height(height));
         }
-        if !is_subtree(height, subtree) {
+        if !is_subtree(heights) {
             return Err(Refusal::Subtree(subtree));
         }
         Ok(Shape {
             height,
             subtree,
-            cells: cells(height as usize, subtree as usize),
+            cells: cells(heights),
         })
     }
 }
 
-/// How many cells the table of a traversal has, for two heights that are not judged yet.
-pub fn size(height: u32, subtree: u32) -> Result<usize, Refusal>
-    ensures { Sizes height subtree result }
+/// How many cells the table of a traversal has.
+pub fn size(heights: Heights) -> Result<usize, Refusal>
+    ensures { Sizes heights.height heights.subtree result }
 {
-    Ok(Shape::new(height, subtree)?.cells)
+    Ok(Shape::new(heights)?.cells)
 }
 
 /// The same for heights that are in order.
-fn cells(height: usize, subtree: usize) -> usize
-    requires height { legal_height height ≡ true }
-    requires subtree { legal_subtree height subtree ≡ true }
-    ensures { result ≡ table_size height subtree }
+fn cells(heights: Heights) -> usize
+    requires height { legal_height heights.height ≡ true }
+    requires subtree { legal_subtree heights.height heights.subtree ≡ true }
+    ensures { result ≡ table_size heights.height heights.subtree }
 {
-    let levels = height / subtree;
+    let levels = (heights.height / heights.subtree) as usize;
+    let subtree = heights.subtree as usize;
     let section = (2 << subtree) - 2;
     let before_tails = 1 + (2 * levels - 1) * section;
     if levels >= 2 {

@@ -8,8 +8,8 @@ use std::fmt;
 /// The kinds of makers.
 #[derive(Clone, Copy, Debug, PartialEq, Eq)]
 pub enum Kind {
-    Sealed,
-    Dummy,
+    Sealed = 1,
+    Dummy = 2,
 }
 
 impl Kind {
@@ -29,10 +29,7 @@ impl From<Kind> for u8 {
     ghost from_gives = { λ kind byte. byte ≡ kind_byte kind };
 
     fn from(kind: Kind) -> u8 {
-        match kind {
-            Kind::Sealed => 1,
-            Kind::Dummy => 2,
-        }
+        kind as u8
     }
 }
 

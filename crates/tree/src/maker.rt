@@ -14,7 +14,7 @@ pub trait Maker {
 
     ghost meter: { Self → Meter };
 
-    /// The byte that names this maker in a strip; no `Kind`, since other makers have kinds of their own.
+    /// The byte that names this maker in a strip; no `Kind`, which would ask of other makers to be one of ours.
     fn kind(&self) -> u8
         ensures { result ≡ (meaning self.now).kind };
 
@@ -22,7 +22,7 @@ pub trait Maker {
     fn width(&self) -> usize
         ensures { result ≡ (meaning self.now).width };
 
-    /// The leaves and the joins made so far, each modulo 2^64.
+    /// The leaves and the joins made so far, each modulo 2^64. Counts are a tuple in all calls: a rule of the project.
     fn made(&self) -> (u64, u64)
         ensures { result ≡ ((meter self.now).leaves, (meter self.now).joins) };
 
@@ -38,7 +38,8 @@ pub trait Maker {
         ensures keeps { meaning self.new ≡ meaning self.old }
         ensures counts { meter self.new ≡ after 0 1 (meter self.old) };
 
-    /// Whether two nodes are equal.
+    /// Whether two nodes are equal. A bound `Eq` on the nodes would be no plainer: it does not say that it is equality,
+    /// so a law would have to stand beside it.
     fn same(&self, one: Self::Node, other: Self::Node) -> bool
         ensures { Decides result (one ≡ other) };
 

@@ -34,6 +34,7 @@ impl Sealed {
     }
 }
 
+// Why it is written beside the impl of `Dummy`, and not with it, stands there.
 impl Maker for Sealed {
     type Node = Digest;
 

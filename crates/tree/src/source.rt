@@ -16,7 +16,8 @@ pub trait Source {
     fn look_up(&self, number: u32) -> Result<(), Cause>
         ensures { result ≡ presence (supply self.now) number };
 
-    /// Writes the token of a number.
+    /// Writes the token of a number. It writes and does not return, a rule of the project: so the caller says where a
+    /// secret lies.
     fn token(&mut self, number: u32, out: &mut [u8; 32]) -> Result<(), Missing>
         ensures gives { Gives (supply self.old) number out.old out.new result }
         ensures keeps { supply self.new ≡ supply self.old };

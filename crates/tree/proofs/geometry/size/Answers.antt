@@ -5,4 +5,4 @@ pub returns : goal.returns
 returns c =
     let shape = c.in_ok-new.field-0 in
     let (passed, height, subtree) = c.in_ok-new.ensures in
-    sizes_of c.args.height c.args.subtree _ passed (rw (← height, ← subtree) shape.shaped)
+    sizes_of c.args.heights.height c.args.heights.subtree _ passed (rw (← height, ← subtree) shape.shaped)
