@@ -196,7 +196,7 @@ module _ {N : Type 0} (H h : ℕ) (v : World N) (height : legal_height H ≡ tru
       }
 
   turn_kept : (d : Draft) (u : World N) (a b B : ℕ) (answer : Result Run Incomplete) → Kept a b B (Drafting d) u → Turned d answer → Kept a b B (turned answer) u
-  turn_kept d u a b B (Ok run) kept (full, same, pulls, drafted, pulled) =
+  turn_kept d u a b B (Ok run) kept (full, same, totals) =
       let (tall, low, leaves, joins, carries) = kept.phase in
       let all : units d ≡ nodes H = full ∙ ap (λ k. 2 ^ (k + 1) - 1) tall in
       record {
@@ -204,9 +204,7 @@ module _ {N : Type 0} (H h : ℕ) (v : World N) (height : legal_height H ≡ tru
           (
             ap (λ s. s.height) same ∙ tall,
             ap (λ s. s.subtree) same ∙ low,
-            ap (λ n. record { pulls = n; drafted = run.drafted; pulled = run.pulled }) pulls
-                ∙ ap (λ q. record { pulls = 0; drafted = q; pulled = run.pulled }) (drafted ∙ ap₂ (λ i j. (i, j)) leaves joins)
-                ∙ ap (λ q. record { pulls = 0; drafted = (a, b); pulled = q }) pulled,
+            totals ∙ ap (λ q. record { pulls = 0; drafted = q; pulled = (0, 0) }) (ap₂ (λ i j. (i, j)) leaves joins),
           ),
           holds d u.table tall all carries,
         );
@@ -221,7 +219,7 @@ module _ {N : Type 0} (H h : ℕ) (v : World N) (height : legal_height H ≡ tru
 
   -- a turn is accepted exactly when all nodes are made
   turn_at : (d : Draft) (u : World N) (a b B : ℕ) (answer : Result Run Incomplete) → Kept a b B (Drafting d) u → Turned d answer → TurnAt (nodes H) (a + b) (turn_answer answer)
-  turn_at d u a b B (Ok run) kept (full, _, _, _, _) =
+  turn_at d u a b B (Ok run) kept (full, _, _) =
       let (tall, low, leaves, joins, carries) = kept.phase in
       omega (arith, full, ap (λ k. 2 ^ (k + 1) - 1) tall)
   turn_at d u a b B (Err back) kept (few, same, missing) =

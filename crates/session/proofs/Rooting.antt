@@ -140,14 +140,14 @@ module _ {N : Type 0} (H h : ℕ) (v : World N) (wraps : Wraps v.meter) (d : Dra
           end
 
   pub rooted : (run : Run) (r : Result (N × (ℕ × ℕ)) Refusal) → Turned e (Ok run) → Finished run w.table r → DraftsRoot H h v r w
-  rooted run (Err r) (full, same, pulls, drafted, pulled) short = absurd (omega (arith, room, ap (λ s. table_size s.height s.subtree) same))
-  rooted run (Ok ended) (full, same, pulls, drafted, pulled) (value, made) =
-      let law = lawful_from H h v wraps (Ok d) begun _ _ w (and_step did (and_turn (Ok run) (full, same, pulls, drafted, pulled) stop)) in
+  rooted run (Err r) (full, same, totals) short = absurd (omega (arith, room, ap (λ s. table_size s.height s.subtree) same))
+  rooted run (Ok ended) (full, same, totals) (value, made) =
+      let law = lawful_from H h v wraps (Ok d) begun _ _ w (and_step did (and_turn (Ok run) (full, same, totals) stop)) in
       let there = ⊎_elim (λ all. all.1) (λ lack. absurd (omega (arith, lack.0))) end in
       let (leaves, top) = joined_whole e.shape.height e.hash.leaves e.hash.newest e.standing.0 (omega (arith, e.standing.1)) in
       let all-leaves : e.hash.leaves ≡ 2 ^ H = leaves ∙ ap (λ k. 2 ^ k) tall in
       let all-joins : e.hash.joins ≡ 2 ^ H - 1 = omega (arith, full, ap (λ k. 2 ^ (k + 1) - 1) tall, twice_pow H) in
-      let pair : run.drafted ≡ (2 ^ H, 2 ^ H - 1) = drafted ∙ ap₂ (λ i j. (i, j)) all-leaves all-joins in
+      let pair : run.totals.drafted ≡ (2 ^ H, 2 ^ H - 1) = ap (λ t. t.drafted) totals ∙ ap₂ (λ i j. (i, j)) all-leaves all-joins in
       let counted = sym (ap (λ t. t.drafted) law.held.2) ∙ pair in (
         ap (λ (o : Option Refusal). or_else o (first_lack v.supply (2 ^ H))) begun.0 ∙ lack_none v.supply (2 ^ H) (λ k less. there k (omega (arith, ap (λ n. 2 ^ n) tall))),
         value ended.0 ∙ law.tree.root ended.0,

@@ -4,12 +4,12 @@ use Rattle.std.specs.Prelude.{ℕ, List, [], ◌∷◌, Ok, Err, Result}
 use Rattle.traversal.specs.declared.state.Draft.{Draft}
 use Rattle.traversal.specs.declared.state.Run.{Run}
 use Rattle.traversal.specs.declared.outcome.Incomplete.{Incomplete}
+use Rattle.traversal.specs.declared.outcome.TooEarly.{TooEarly}
 use Rattle.traversal.specs.declared.refusal.Refusal.{Refusal}
 use Rattle.traversal.specs.Worlds.{World}
 use Rattle.traversal.specs.Calls.{Stepped, Turned}
 use Rattle.session.specs.declared.held.Held.{Held}
 use Rattle.session.specs.declared.held.Held.TheVariants.{Drafting, Running}
-use Rattle.session.specs.declared.held.Lacking.{Lacking}
 use Rattle.session.specs.declared.held.Ask.{Ask}
 use Rattle.session.specs.declared.held.Ask.TheVariants.{Step as ask_step, Turn as ask_turn}
 use Rattle.session.specs.declared.held.Call.{Call}
@@ -26,9 +26,9 @@ turned (Ok run) = Running run
 turned (Err back) = Drafting back.draft
 
 -- what it answers: nothing more, or how many units are missing
-abbrev pub turn_answer : Result Run Incomplete → Result Unit Lacking
+abbrev pub turn_answer : Result Run Incomplete → Result Unit TooEarly
 turn_answer (Ok run) = Ok tt
-turn_answer (Err back) = Err (record { units = back.missing })
+turn_answer (Err back) = Err back.early
 
 pub data History {N : Type 0} : Held → World N → List Call → Held → World N → Type 0 where
   stop : {z : Held} {w : World N} → History z w [] z w

@@ -5,12 +5,12 @@ use Rattle.tree.specs.Supply.{Supply, presence}
 use Rattle.tree.specs.Tree.{node_at, root_of}
 use Rattle.tree.specs.Geometry.{levels, table_size, existing_start}
 use Rattle.traversal.specs.declared.state.Draft.{Draft}
+use Rattle.traversal.specs.declared.outcome.TooEarly.{TooEarly}
 use Rattle.traversal.specs.declared.refusal.Refusal.{Refusal}
 use Rattle.traversal.specs.Plots.{row_start}
 use Rattle.traversal.specs.Worlds.{World, tokens}
-use Rattle.traversal.specs.Calls.{made_so_far, totals}
+use Rattle.traversal.specs.Calls.{made_so_far}
 use Rattle.session.specs.declared.held.Held.{Held}
-use Rattle.session.specs.declared.held.Lacking.{Lacking}
 use Rattle.session.specs.declared.held.Held.TheVariants.{Drafting, Running}
 use Rattle.session.specs.declared.held.Call.{Call}
 use Rattle.session.specs.declared.held.Call.TheVariants.{Step, Turn}
@@ -45,9 +45,9 @@ Unrefused (Step budget (Err r) ∷ calls) = ⊥
 Unrefused (Turn answer ∷ calls) = Unrefused calls
 
 -- a turn is accepted if all nodes are made, and refused with the number of those that are missing
-abbrev pub TurnAt : ℕ → ℕ → Result Unit Lacking → Type 0
+abbrev pub TurnAt : ℕ → ℕ → Result Unit TooEarly → Type 0
 TurnAt all made (Ok _) = made ≡ all
-TurnAt all made (Err lacking) = (0 < lacking.units) × (made + lacking.units ≡ all)
+TurnAt all made (Err early) = (0 < early.missing) × (made + early.missing ≡ all)
 
 -- so is each turn of a list, where some nodes were made before
 abbrev pub TurnsAt : ℕ → ℕ → List Call → Type 0
@@ -79,7 +79,7 @@ HeldTree m s H h (Running run) table = HoldsTree m s H h table
 abbrev pub HoldsCount : ℕ → ℕ → ℕ → ℕ → Held → Type 0
 HoldsCount H h leaves joins (Drafting d) = (d.shape.height ≡ H) × (d.shape.subtree ≡ h) × (made_so_far d ≡ (leaves, joins))
 HoldsCount H h leaves joins (Running run) =
-    (run.shape.height ≡ H) × (run.shape.subtree ≡ h) × (totals run ≡ record { pulls = 0; drafted = (leaves, joins); pulled = (0, 0) })
+    (run.shape.height ≡ H) × (run.shape.subtree ≡ h) × (run.totals ≡ record { pulls = 0; drafted = (leaves, joins); pulled = (0, 0) })
 
 -- What every list of calls comes to, from a world v to a world w.
 pub record Lawful {N : Type 0} (H h : ℕ) (v : World N) (calls : List Call) (z : Held) (w : World N) : Type 0 where

@@ -44,5 +44,5 @@ DraftsRoot H h v (Err r) w =
 
 -- The end of a run: the first cell, and what the draft made.
 abbrev pub Finished : {N : Type 0} → Run → List N → Result (N × (ℕ × ℕ)) Refusal → Type 0
-Finished {N} run table (Ok ended) = ((y : N) → ended.0 ≡ slice_index_or table 0 y) × (ended.1 ≡ run.drafted)
+Finished {N} run table (Ok ended) = ((y : N) → ended.0 ≡ slice_index_or table 0 y) × (ended.1 ≡ run.totals.drafted)
 Finished run table (Err r) = length table < table_size run.shape.height run.shape.subtree

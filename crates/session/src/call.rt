@@ -3,7 +3,7 @@ ghost use Rattle.traversal.specs.Worlds.{world_of, SameLoans};
 ghost use Rattle.session.specs.History.{History, asked};
 ghost use Rattle.session.specs.declared.held.Held.TheVariants.{Drafting};
 
-use crate::held::{Ask, Call, Held, Lacking};
+use crate::held::{Ask, Call, Held};
 use traversal::lent::Lent;
 use traversal::outcome::Incomplete;
 use traversal::state::Draft;
@@ -23,12 +23,9 @@ pub fn call<M: Maker, S: Source>(mut draft: Draft, ask: Ask, lent: &mut Lent<M, 
         }
         Ask::Turn => match draft.turn() {
             Ok(run) => (Held::Running(run), Call::Turn { answer: Ok(()) }),
-            Err(Incomplete { draft, missing }) => (
-                Held::Drafting(draft),
-                Call::Turn {
-                    answer: Err(Lacking { units: missing }),
-                },
-            ),
+            Err(Incomplete { draft, early }) => {
+                (Held::Drafting(draft), Call::Turn { answer: Err(early) })
+            }
         },
     }
 }

@@ -1,3 +1,4 @@
+use traversal::outcome::TooEarly;
 use traversal::refusal::Refusal;
 use traversal::state::{Draft, Run};
 
@@ -14,12 +15,6 @@ pub enum Ask {
     Turn,
 }
 
-/// A turn was refused: the draft lacks so many units. The draft itself is handed back, and no part of what is logged.
-#[derive(Clone, Copy, Debug, PartialEq, Eq)]
-pub struct Lacking {
-    pub units: u64,
-}
-
 /// A call that was made, with what it answered.
 #[derive(Clone, Copy, Debug, PartialEq, Eq)]
 pub enum Call {
@@ -28,6 +23,6 @@ pub enum Call {
         answer: Result<(u64, u64), Refusal>,
     },
     Turn {
-        answer: Result<(), Lacking>,
+        answer: Result<(), TooEarly>,
     },
 }

@@ -5,21 +5,21 @@ ghost use Rattle.session.specs.Law.{LawfulFrom};
 
 use traversal::refusal::Refusal;
 use traversal::state::Draft;
+use tree::geometry::Heights;
 use tree::maker::Maker;
 use tree::source::Source;
 
 /// Begins a draft, and promises what every list of calls on it comes to. It takes the parts by `&`, since
-/// `Lent` would ask for more, and the heights as `Draft::begin` does.
+/// `Lent` would ask for more.
 pub fn open<M: Maker, S: Source>(
-    height: u32,
-    subtree: u32,
+    heights: Heights,
     table: &[M::Node],
     maker: &M,
     source: &S,
 ) -> Result<Draft, Refusal>
-    ensures begun { Begun height subtree (length table.now) (S.supply source.now) result }
-    ensures lawful { LawfulFrom height subtree (world table.now (M.meaning maker.now) (M.meter maker.now) (S.supply source.now)) result }
+    ensures begun { Begun heights.height heights.subtree (length table.now) (S.supply source.now) result }
+    ensures lawful { LawfulFrom heights.height heights.subtree (world table.now (M.meaning maker.now) (M.meter maker.now) (S.supply source.now)) result }
 {
     let _ = maker;
-    Draft::begin(height, subtree, table, source)
+    Draft::begin(heights, table, source)
 }

@@ -8,36 +8,32 @@ use traversal::lent::Lent;
 use traversal::outcome::Incomplete;
 use traversal::refusal::Refusal;
 use traversal::state::{Draft, Run};
+use tree::geometry::Heights;
 use tree::maker::Maker;
 use tree::source::Source;
 
-/// Drafts a whole tree: answers its root, and the leaves and the joins made. It takes the heights as `Draft::begin`
-/// does.
+/// Drafts a whole tree: answers its root, and the leaves and the joins made.
 pub fn root<M: Maker, S: Source>(
-    height: u32,
-    subtree: u32,
+    heights: Heights,
     lent: &mut Lent<M, S>,
 ) -> Result<(M::Node, (u64, u64)), Refusal>
-    ensures drafted { DraftsRoot height subtree (world_of M.meaning M.meter S.supply lent.old) result (world_of M.meaning M.meter S.supply lent.new) }
+    ensures drafted { DraftsRoot heights.height heights.subtree (world_of M.meaning M.meter S.supply lent.old) result (world_of M.meaning M.meter S.supply lent.new) }
     ensures same_loans { SameLoans lent.old lent.new }
 {
-    let mut draft = begin(height, subtree, lent)?;
+    let mut draft = begin(heights, lent)?;
+    // whether it goes to the end is seen at the turn
     let _ = draft.step(lent, u64::MAX);
     match draft.turn() {
         Ok(run) => finish(run, lent),
-        Err(Incomplete { draft, missing: _ }) => Err(lack(draft, lent)),
+        Err(Incomplete { draft, early: _ }) => Err(lack(draft, lent)),
     }
 }
 
 /// Begins a draft with what is lent. Of what lies behind a `&mut` the check lends one field at a time.
-fn begin<M: Maker, S: Source>(
-    height: u32,
-    subtree: u32,
-    lent: &Lent<M, S>,
-) -> Result<Draft, Refusal>
-    ensures { Begun height subtree (length lent.now.table.now) (S.supply lent.now.source.now) result }
+fn begin<M: Maker, S: Source>(heights: Heights, lent: &Lent<M, S>) -> Result<Draft, Refusal>
+    ensures { Begun heights.height heights.subtree (length lent.now.table.now) (S.supply lent.now.source.now) result }
 {
-    Draft::begin(height, subtree, lent.table, lent.source)
+    Draft::begin(heights, lent.table, lent.source)
 }
 
 /// The root and what the draft made, of a run that is closed.
@@ -63,8 +59,5 @@ fn lack<M: Maker, S: Source>(mut draft: Draft, lent: &mut Lent<M, S>) -> Refusal
 {
     let answer = draft.step(lent, 1);
     let _ = draft.abandon();
-    match answer {
-        Ok(_) => unreachable(),
-        Err(refusal) => refusal,
-    }
+    answer.unwrap_err()
 }

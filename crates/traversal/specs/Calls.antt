@@ -6,14 +6,14 @@ use Rattle.tree.specs.Geometry.{legal_subtree, table_size}
 use Rattle.tree.specs.Refusals.{first_refusal}
 use Rattle.tree.specs.Supply.{Supply, presence}
 use Rattle.tree.specs.declared.fault.Cause.{Cause}
+use Rattle.tree.specs.declared.refusal.Refusal.TheVariants.{Height, Subtree}
 use Rattle.traversal.specs.declared.fault.DraftFault.{DraftFault}
-use Rattle.traversal.specs.declared.refusal.Layer.TheVariants.{Draft as in_draft}
 use Rattle.traversal.specs.declared.refusal.Refusal.{Refusal}
-use Rattle.traversal.specs.declared.refusal.Refusal.TheVariants.{Height, Subtree, Table, Source, Token}
+use Rattle.traversal.specs.declared.refusal.Refusal.TheVariants.{Heights, Table, Source, Token}
 use Rattle.traversal.specs.declared.state.Draft.{Draft}
 use Rattle.traversal.specs.declared.state.Run.{Run}
 use Rattle.traversal.specs.declared.outcome.Incomplete.{Incomplete}
-use Rattle.traversal.specs.declared.outcome.Totals.{Totals}
+use Rattle.traversal.specs.Refusals.{draft_lack}
 use Rattle.traversal.specs.Shapes.{draft_plot}
 use Rattle.traversal.specs.Worlds.{World}
 use Rattle.traversal.specs.Units.{next_unit, Advanced}
@@ -32,7 +32,7 @@ units_in_all d = 2 ^ (d.shape.height + 1) - 1
 -- What begin checks, in this order.
 abbrev pub begin_checks : ℕ → ℕ → ℕ → ℕ → List (Bool × Refusal)
 begin_checks H h cells size =
-    (legal_height H, Height H) ∷ (legal_subtree H h, Subtree h)
+    (legal_height H, Heights (Height H)) ∷ (legal_subtree H h, Heights (Subtree h))
     ∷ (nat_le (table_size H h) cells, Table (table_size H h)) ∷ (nat_le (2 ^ H) size, Source size) ∷ []
 
 -- A table of so many cells is long enough for a shape, or too short.
@@ -54,7 +54,7 @@ pub record Drafted {N : Type 0} (d : Draft) (v : World N) (leaves joins : ℕ) (
 -- the refusal of a token that is not there
 abbrev pub lacking : ℕ → Result Unit Cause → Option Refusal
 lacking n (Ok _) = None
-lacking n (Err why) = Some (Token (record { number = n; cause = why; layer = in_draft }))
+lacking n (Err why) = Some (Token (draft_lack (record { number = n; cause = why })))
 
 -- what the next unit lacks: a leaf its token if that is missing, a join nothing
 abbrev pub unit_lacks : Draft → Supply → Option Refusal
@@ -64,8 +64,7 @@ unit_lacks d s = cond (join_due d.hash.leaves d.hash.newest) None (lacking d.has
 abbrev pub DraftUnit : {N : Type 0} → Draft → World N → Result Unit DraftFault → Draft → World N → Type 0
 DraftUnit d v (Ok _) e w = (unit_lacks d v.supply ≡ None) × Drafted d v (next_unit d.hash).0 (next_unit d.hash).1 e w
 DraftUnit d v (Err f) e w =
-    (unit_lacks d v.supply ≡ Some (Token (record { number = f.unit.missing.number; cause = f.unit.missing.cause; layer = in_draft })))
-    × (e ≡ d) × (w ≡ v)
+    (unit_lacks d v.supply ≡ Some (Token (draft_lack f.unit.missing))) × (e ≡ d) × (w ≡ v)
 
 -- Units stop when the budget is spent, the draft is complete, or the next unit lacks its token.
 abbrev pub Stops : ℕ → ℕ → Draft → Supply → Type 0
@@ -91,20 +90,14 @@ Stepped d v budget (Ok made) e w =
 Stepped d v budget (Err r) e w =
     (step_refusal d (length v.table) v.supply budget ≡ Some r) × (e ≡ d) × (w ≡ v)
 
--- A draft is turned exactly if it is complete, and is handed back otherwise.
-abbrev pub incomplete_number : ℕ
-incomplete_number = 5
-
+-- A draft is turned exactly if it is complete, and is handed back otherwise. A run has no pulls yet.
 abbrev pub Turned : Draft → Result Run Incomplete → Type 0
 Turned d (Ok r) =
     (units d ≡ units_in_all d) × (r.shape ≡ d.shape)
-    × (r.pulls ≡ 0) × (r.drafted ≡ made_so_far d) × (r.pulled ≡ (0, 0))
-Turned d (Err b) = (units d < units_in_all d) × (b.draft ≡ d) × (b.missing ≡ units_in_all d - units d)
+    × (r.totals ≡ record { pulls = 0; drafted = made_so_far d; pulled = (0, 0) })
+Turned d (Err b) = (units d < units_in_all d) × (b.draft ≡ d) × (b.early.missing ≡ units_in_all d - units d)
 
 -- The root is in the first cell.
 abbrev pub Rooted : {N : Type 0} → Run → List N → Result N Refusal → Type 0
 Rooted run table (Ok x) = (table_size run.shape.height run.shape.subtree ≤ length table) × ((y : _) → x ≡ slice_index_or table 0 y)
 Rooted run table (Err r) = (length table < table_size run.shape.height run.shape.subtree) × (r ≡ Table (table_size run.shape.height run.shape.subtree))
-
-abbrev pub totals : Run → Totals
-totals run = record { pulls = run.pulls; drafted = run.drafted; pulled = run.pulled }

@@ -6,31 +6,25 @@ ghost use Rattle.traversal.specs.Calls.{units, units_in_all, made_so_far, Begun,
 use crate::fault::DraftFault;
 use crate::growing::Growing;
 use crate::lent::Lent;
-use crate::outcome::Incomplete;
+use crate::outcome::{Incomplete, TooEarly, Totals};
 use crate::plot::{Plot, section_cells};
 use crate::refusal::{Refusal, check_room};
 use crate::state::{Draft, Run};
 use crate::treehash::Treehash;
-use tree::geometry::Shape;
+use tree::geometry::{Heights, Shape};
 use tree::maker::Maker;
 use tree::source::Source;
 
 impl Draft {
     /// Begins the initialization of a traversal: of the tree of a height over the tokens of a source, with
-    /// subtrees of another height, in a table of cells. Touches no cell. The heights are two numbers until they are
-    /// judged, and then a `Shape`.
-    pub fn begin<N, S: Source>(
-        height: u32,
-        subtree: u32,
-        table: &[N],
-        source: &S,
-    ) -> Result<Draft, Refusal>
-        ensures { Begun height subtree (length table.now) (S.supply source.now) result }
+    /// subtrees of another height, in a table of cells. Touches no cell.
+    pub fn begin<N, S: Source>(heights: Heights, table: &[N], source: &S) -> Result<Draft, Refusal>
+        ensures { Begun heights.height heights.subtree (length table.now) (S.supply source.now) result }
     {
-        let shape = Shape::new(height, subtree)?;
+        let shape = Shape::new(heights)?;
         check_room(table.len(), shape)?;
         let tokens = source.size();
-        if tokens < 1 << height {
+        if tokens < 1 << heights.height {
             return Err(Refusal::Source(tokens));
         }
         Ok(Draft {
@@ -68,16 +62,16 @@ impl Draft {
         if missing > 0 {
             return Err(Incomplete {
                 draft: self,
-                missing,
+                early: TooEarly { missing },
             });
         }
         let Draft { shape, hash } = self;
-        Ok(Run {
-            shape,
+        let totals = Totals {
             pulls: 0,
             drafted: hash.made(),
             pulled: (0, 0),
-        })
+        };
+        Ok(Run { shape, totals })
     }
 
     /// Gives a draft up; answers the leaves and the joins that it made.

@@ -2,7 +2,7 @@ ghost use Rattle.std.specs.Prelude.{◌≡◌};
 
 use tree::fault::Missing;
 
-/// A unit of a treehash lacked its token. Each layer has a type of its own, so that it can add what it knows.
+/// A unit of a treehash lacked its token. That each layer has a fault type of its own is a rule of the project.
 #[derive(Clone, Copy, Debug, PartialEq, Eq)]
 pub struct UnitFault {
     pub missing: Missing,
@@ -16,7 +16,7 @@ impl From<Missing> for UnitFault {
     }
 }
 
-/// A unit of a draft lacked its token.
+/// A unit of a draft lacked its token: the fault type of its layer.
 #[derive(Clone, Copy, Debug, PartialEq, Eq)]
 pub struct DraftFault {
     pub unit: UnitFault,

@@ -67,7 +67,8 @@ impl Home {
     }
 }
 
-/// Puts a node into a cell of a section.
+/// Puts a node into a cell of a section, which is passed as a slice that begins inside the table: a rule of the
+/// project.
 fn put<N: Copy>(section: &mut [N], offset: usize, node: N)
     requires { offset < length section.old }
     ensures { section.new ≡ slice_set section.old offset node }
@@ -75,7 +76,7 @@ fn put<N: Copy>(section: &mut [N], offset: usize, node: N)
     section[offset] = node;
 }
 
-/// The node in a cell of a section.
+/// The node in a cell of a section, passed in the same way.
 fn get<N: Copy>(section: &[N], offset: usize) -> N
     requires { offset < length section.now }
     ensures { result ≡ slice_index_or section.now offset result }
@@ -83,7 +84,8 @@ fn get<N: Copy>(section: &[N], offset: usize) -> N
     section[offset]
 }
 
-/// The cells of a subtree. In `tree` the number is worked out for a shape, and a plot has none.
+/// The cells of a subtree. A call of `tree` for this would be no plainer: it would have to refuse heights that no
+/// subtree has, and here there are none.
 pub(crate) fn section_cells(subtree: u32) -> usize
     requires { subtree ≤ 10 }
     ensures { result ≡ subtree_cells subtree }

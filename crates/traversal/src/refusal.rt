@@ -1,12 +1,12 @@
 ghost use Rattle.std.specs.Prelude.{◌≡◌, Some};
 ghost use Rattle.traversal.specs.Calls.{HasRoom};
-ghost use Rattle.traversal.specs.Refusals.{numbered, layer_text, refusal_text, from_tree, draft_lack};
-ghost use Rattle.traversal.specs.declared.refusal.Refusal.TheVariants.{Token};
+ghost use Rattle.traversal.specs.Refusals.{numbered, layer_text, lack_text, refusal_text, draft_lack};
+ghost use Rattle.traversal.specs.declared.refusal.Refusal.TheVariants.{Heights, Token};
 
 use crate::fault::DraftFault;
 use std::error::Error;
 use std::fmt;
-use tree::fault::Cause;
+use tree::fault::Missing;
 use tree::geometry::Shape;
 use tree::refusal;
 
@@ -19,18 +19,15 @@ pub enum Layer {
 /// A token that could not be had.
 #[derive(Clone, Copy, Debug, PartialEq, Eq)]
 pub struct Lack {
-    pub number: u32,
-    pub cause: Cause,
+    pub missing: Missing,
     pub layer: Layer,
 }
 
 /// Why a call of a traversal does nothing.
 #[derive(Clone, Copy, Debug, PartialEq, Eq)]
 pub enum Refusal {
-    /// No tree has this height.
-    Height(u32),
-    /// The tree has no subtrees of this height.
-    Subtree(u32),
+    /// No tree has this height, or the tree has no subtrees of that height.
+    Heights(refusal::Refusal),
     /// The table is too short; it should have had so many cells.
     Table(usize),
     /// The source has only so many numbers, fewer than the tree has leaves.
@@ -41,14 +38,12 @@ pub enum Refusal {
 
 impl Refusal {
     /// The number by which a refusal is known outside. It is one fact of a refusal, not the refusal in another
-    /// form, so this is no conversion. The numbers stand in one list for each type, some as in the layer below:
-    /// with names from there the list would be no plainer.
+    /// form, so this is no conversion.
     pub fn number(self) -> u8
         ensures { result ≡ (numbered self).0 }
     {
         match self {
-            Refusal::Height(_) => 1,
-            Refusal::Subtree(_) => 2,
+            Refusal::Heights(refusal) => refusal.number(),
             Refusal::Table(_) => 3,
             Refusal::Source(_) => 4,
             Refusal::Token(_) => 6,
@@ -67,6 +62,16 @@ pub(crate) fn check_room(cells: usize, shape: Shape) -> Result<(), Refusal>
     Ok(())
 }
 
+// Which token, why, and which call.
+impl fmt::Display for Lack {
+    ghost output = { λ lack. Some (lack_text lack) };
+
+    fn fmt<W: fmt::Write>(&self, f: &mut fmt::Formatter<W>) -> fmt::Result {
+        let Missing { number, cause } = self.missing;
+        write!(f, "{number} {cause} {}", self.layer)
+    }
+}
+
 impl fmt::Display for Layer {
     ghost output = { λ layer. Some (layer_text layer) };
 
@@ -82,19 +87,12 @@ impl fmt::Display for Refusal {
     ghost output = { λ refusal. Some (refusal_text refusal) };
 
     fn fmt<W: fmt::Write>(&self, f: &mut fmt::Formatter<W>) -> fmt::Result {
-        write!(f, "refused {}", self.number())?;
+        let number = self.number();
         match self {
-            Refusal::Height(height) => write!(f, " {height}"),
-            Refusal::Subtree(subtree) => write!(f, " {subtree}"),
-            Refusal::Table(cells) => write!(f, " {cells}"),
-            Refusal::Source(tokens) => write!(f, " {tokens}"),
-            Refusal::Token(
-                Lack {
-                    number,
-                    cause,
-                    layer,
-                },
-            ) => write!(f, " {number} {cause} {layer}"),
+            Refusal::Heights(refusal) => write!(f, "{refusal}"),
+            Refusal::Table(cells) => write!(f, "refused {number} {cells}"),
+            Refusal::Source(tokens) => write!(f, "refused {number} {tokens}"),
+            Refusal::Token(lack) => write!(f, "refused {number} {lack}"),
         }
     }
 }
@@ -102,13 +100,10 @@ impl fmt::Display for Refusal {
 impl Error for Refusal {}
 
 impl From<refusal::Refusal> for Refusal {
-    ghost from_gives = { λ t r. r ≡ from_tree t };
+    ghost from_gives = { λ t r. r ≡ Heights t };
 
     fn from(refusal: refusal::Refusal) -> Refusal {
-        match refusal {
-            refusal::Refusal::Height(height) => Refusal::Height(height),
-            refusal::Refusal::Subtree(subtree) => Refusal::Subtree(subtree),
-        }
+        Refusal::Heights(refusal)
     }
 }
 
@@ -116,10 +111,8 @@ impl From<DraftFault> for Refusal {
     ghost from_gives = { λ f r. r ≡ Token (draft_lack f.unit.missing) };
 
     fn from(fault: DraftFault) -> Refusal {
-        let missing = fault.unit.missing;
         Refusal::Token(Lack {
-            number: missing.number,
-            cause: missing.cause,
+            missing: fault.unit.missing,
             layer: Layer::Draft,
         })
     }

@@ -1,5 +1,5 @@
 ghost use Rattle.std.specs.Prelude.{◌≡◌};
-ghost use Rattle.traversal.specs.Calls.{Rooted, totals};
+ghost use Rattle.traversal.specs.Calls.{Rooted};
 
 use crate::outcome::Totals;
 use crate::refusal::{Refusal, check_room};
@@ -16,18 +16,9 @@ impl Run {
 
     /// Ends the run; answers what it came to.
     pub fn close(self) -> Totals
-        ensures { result ≡ totals self }
+        ensures { result ≡ self.totals }
     {
-        let Run {
-            shape: _,
-            pulls,
-            drafted,
-            pulled,
-        } = self;
-        Totals {
-            pulls,
-            drafted,
-            pulled,
-        }
+        let Run { shape: _, totals } = self;
+        totals
     }
 }

@@ -1,6 +1,7 @@
 ghost use Rattle.traversal.specs.Shapes.{draft_plot};
 ghost use Rattle.traversal.specs.Units.{Standing};
 
+use crate::outcome::Totals;
 use crate::treehash::Treehash;
 use tree::geometry::Shape;
 
@@ -16,9 +17,6 @@ pub struct Draft {
 /// An initialized fractal traversal: how far it has come, in plain numbers. It is closed at the end.
 pub struct Run {
     pub(crate) shape: Shape,
-    pub(crate) pulls: u64,
-    /// The leaves and the joins that the draft made.
-    pub(crate) drafted: (u64, u64),
-    /// The leaves and the joins that the pulls made.
-    pub(crate) pulled: (u64, u64),
+    /// What it comes to up to now.
+    pub(crate) totals: Totals,
 }

@@ -5,4 +5,4 @@ use Rattle.traversal.proofs.state.Draft.turn.Goals as goal
 pub returns : goal.returns
 returns c =
     let d = c.args.self in
-    (omega (arith, units_most d.shape.height d.shape.subtree d.shape.cells d.shape.shaped d.hash d.standing), refl, refl, cc, refl)
+    (omega (arith, units_most d.shape.height d.shape.subtree d.shape.cells d.shape.shaped d.hash d.standing), refl, cc)
