@@ -9,14 +9,15 @@ use hashing::digest;
 use session::root::root;
 use traversal::lent::Lent;
 use tree::digest::Digest;
+use tree::geometry::Heights;
 use tree::sealed::Sealed;
 use tree::seed::SeedSource;
 
-/// The height of the tree.
-const HEIGHT: u32 = 16;
-
-/// The height of the subtrees of its traversal.
-const SUBTREE: u32 = 4;
+/// The height of the tree, and that of the subtrees of its traversal.
+const HEIGHTS: Heights = Heights {
+    height: 16,
+    subtree: 4,
+};
 
 /// The cells of the table of its traversal.
 const CELLS: usize = 225;
@@ -53,7 +54,7 @@ fn draft_root(seed: [u8; 32]) -> Digest
         maker: &mut maker,
         source: &mut source,
     };
-    match root(HEIGHT, SUBTREE, &mut lent) {
+    match root(HEIGHTS, &mut lent) {
         Ok(drafted) => drafted.0,
         Err(_) => unreachable(),
     }
@@ -78,7 +79,7 @@ pub extern "C" fn draft_bench_digests(seed: &[u8], out: &mut [u8]) -> bool
 /// The last digest of a chain, in which each message begins with the digest of the one before.
 fn last_digest(first: [u8; 32]) -> [u8; 32] {
     let mut last = first;
-    for number in 0..1 << HEIGHT {
+    for number in 0..1 << HEIGHTS.height {
         last = digest(&digest(&message::<NUMBERED>(last)));
         if number > 0 {
             last = digest(&message::<PAIR>(last));

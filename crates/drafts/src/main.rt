@@ -4,7 +4,6 @@
 #![tactic(auto)]
 
 mod entries;
-mod heights;
 mod refused;
 mod trial;
 mod tried;

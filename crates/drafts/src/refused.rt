@@ -1,5 +1,4 @@
 use crate::entries::entries;
-use crate::heights::Heights;
 use crate::trial::Trial;
 use crate::tried::Tried;
 use crate::words::{Answer, Made};
@@ -7,6 +6,7 @@ use std::mem;
 use traversal::outcome::Incomplete;
 use traversal::state::Draft;
 use tree::dummy::Dummy;
+use tree::geometry::Heights;
 use tree::list::ListSource;
 use tree::sealed::Sealed;
 use tree::source::Source;
@@ -26,8 +26,8 @@ const CELLS: usize = 19;
 /// Which token is torn or beyond the source.
 const LACKED: u8 = 5;
 
-/// Heights, cells of the table and tokens of the source that a draft is begun with: a row of figures each, which is
-/// taken apart where it is read.
+/// Heights, cells of the table and tokens of the source that a draft is begun with. Each row is a tuple, since rows of
+/// named fields would take four lines each.
 const BEGINS: [(u32, u32, usize, u8); 14] = [
     (4, 2, CELLS, TOKENS),
     (0, 1, CELLS, TOKENS),
@@ -75,12 +75,10 @@ fn tell_early_turn<M: Tried, S: Source + Drop>(
             let _ = run.close();
             println!(rt; "early turn: {first}, turned")?;
         }
-        Err(back) => {
-            let number = back.number();
-            let Incomplete { mut draft, missing } = back;
+        Err(Incomplete { mut draft, early }) => {
             let more = Answer(trial.step(&mut draft, u64::MAX));
             let ending = trial.end(draft)?;
-            println!(rt; "early turn: {first}, turn refused {number} {missing}, {more}, {ending}")?;
+            println!(rt; "early turn: {first}, turn {early}, {more}, {ending}")?;
         }
     }
     Ok(())
@@ -89,11 +87,12 @@ fn tell_early_turn<M: Tried, S: Source + Drop>(
 /// Drafts that are begun with some heights, tables and sources, and abandoned at once.
 pub(crate) fn tell_begins(rt: &HostRuntime) -> anyhow::Result<()> {
     for (height, subtree, cells, tokens) in BEGINS {
+        let heights = Heights { height, subtree };
         let table = vec![in rt.alloc(); Dummy::FILLER; cells]?;
         let bytes = entries(rt.alloc(), tokens, None)?;
-        let begun = Draft::begin(height, subtree, &table, &ListSource::new(&bytes));
+        let begun = Draft::begin(heights, &table, &ListSource::new(&bytes));
         let answer = Answer(begun.map(|draft| draft.abandon()));
-        println!(rt; "begin {height} {subtree}, {cells} cells, {tokens} tokens: {answer}")?;
+        println!(rt; "begin {heights}, {cells} cells, {tokens} tokens: {answer}")?;
     }
     Ok(())
 }

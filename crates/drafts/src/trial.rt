@@ -1,4 +1,3 @@
-use crate::heights::Heights;
 use crate::tried::Tried;
 use crate::words::{Answer, Ending, Made, Tally};
 use session::root::root;
@@ -8,6 +7,7 @@ use traversal::lent::Lent;
 use traversal::outcome::Incomplete;
 use traversal::refusal::Refusal;
 use traversal::state::Draft;
+use tree::geometry::{Heights, size};
 use tree::maker::Maker;
 use tree::source::Source;
 
@@ -35,7 +35,7 @@ impl<'a, M: Tried, S: Source + Drop> Trial<'a, M, S> {
         heights: Heights,
         source: S,
     ) -> anyhow::Result<Trial<'a, M, S>> {
-        let cells = heights.cells().saturating_add(MORE);
+        let cells = needed(heights).saturating_add(MORE);
         Ok(Trial {
             rt,
             heights,
@@ -46,8 +46,7 @@ impl<'a, M: Tried, S: Source + Drop> Trial<'a, M, S> {
     }
 
     pub(crate) fn begin(&self) -> Result<Draft, Refusal> {
-        let Heights { height, subtree } = self.heights;
-        Draft::begin(height, subtree, &self.table, &self.source)
+        Draft::begin(self.heights, &self.table, &self.source)
     }
 
     pub(crate) fn step(&mut self, draft: &mut Draft, budget: u64) -> Result<(u64, u64), Refusal> {
@@ -56,8 +55,7 @@ impl<'a, M: Tried, S: Source + Drop> Trial<'a, M, S> {
 
     /// The root of a whole draft in one call, and the leaves and the joins made.
     pub(crate) fn root(&mut self) -> Result<(M::Node, (u64, u64)), Refusal> {
-        let Heights { height, subtree } = self.heights;
-        root(height, subtree, &mut self.lent())
+        root(self.heights, &mut self.lent())
     }
 
     /// Steps a draft until a step makes nothing.
@@ -88,15 +86,10 @@ impl<'a, M: Tried, S: Source + Drop> Trial<'a, M, S> {
                     Err(refusal) => Ok(Ending::Rootless(refusal)),
                 }
             }
-            Err(back) => {
-                let number = back.number();
-                let Incomplete { draft, missing } = back;
-                Ok(Ending::Abandoned {
-                    number,
-                    missing,
-                    made: draft.abandon().into(),
-                })
-            }
+            Err(Incomplete { draft, early }) => Ok(Ending::Abandoned {
+                early,
+                made: draft.abandon().into(),
+            }),
         }
     }
 
@@ -122,7 +115,7 @@ impl<'a, M: Tried, S: Source + Drop> Trial<'a, M, S> {
     pub(crate) fn keeps_rest(&self) -> bool {
         self.table
             .iter()
-            .skip(self.heights.cells())
+            .skip(needed(self.heights))
             .all(|node| self.maker.same(*node, M::FILLER))
     }
 
@@ -159,4 +152,9 @@ impl<'a, M: Tried, S: Source + Drop> Trial<'a, M, S> {
             source: &mut self.source,
         }
     }
+}
+
+/// How many cells the table has at least; none for heights that are refused.
+fn needed(heights: Heights) -> usize {
+    size(heights).unwrap_or(0)
 }

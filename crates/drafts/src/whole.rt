@@ -1,9 +1,9 @@
-use crate::heights::Heights;
 use crate::trial::Trial;
 use crate::tried::Tried;
 use crate::words::Answer;
 use traversal::state::Draft;
 use tree::dummy::Dummy;
+use tree::geometry::Heights;
 use tree::sealed::Sealed;
 use tree::seed::SeedSource;
 

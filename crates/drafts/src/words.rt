@@ -1,5 +1,5 @@
 use std::fmt;
-use traversal::outcome::Totals;
+use traversal::outcome::{TooEarly, Totals};
 use traversal::refusal::Refusal;
 
 /// A number of leaves and one of joins, as a call answers them, to be shown.
@@ -44,8 +44,7 @@ pub enum Ending {
     },
     Rootless(Refusal),
     Abandoned {
-        number: u8,
-        missing: u64,
+        early: TooEarly,
         made: Made,
     },
 }
@@ -59,11 +58,7 @@ impl fmt::Display for Ending {
                 write!(f, "root {root}, closed {} {drafted} {pulled}", totals.pulls)
             }
             Ending::Rootless(refusal) => write!(f, "no root, {refusal}"),
-            Ending::Abandoned {
-                number,
-                missing,
-                made,
-            } => write!(f, "turn refused {number} {missing}, abandoned {made}"),
+            Ending::Abandoned { early, made } => write!(f, "turn {early}, abandoned {made}"),
         }
     }
 }

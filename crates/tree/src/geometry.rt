@@ -1,9 +1,10 @@
-ghost use Rattle.std.specs.Prelude.{◌≡◌, true};
+ghost use Rattle.std.specs.Prelude.{◌≡◌, true, Some};
 ghost use Rattle.tree.specs.Numbers.{legal_height};
 ghost use Rattle.tree.specs.Geometry.{legal_subtree, table_size, Shaped, Sizes};
 
 use crate::height::is_height;
 use crate::refusal::Refusal;
+use std::fmt;
 
 /// The greatest height of a subtree.
 const GREATEST: u32 = 10;
@@ -14,6 +15,17 @@ const GREATEST: u32 = 10;
 pub struct Heights {
     pub height: u32,
     pub subtree: u32,
+}
+
+// As the programs print them.
+impl fmt::Display for Heights {
+    ghost use Rattle.tree.specs.Shapes.{heights_text};
+
+    ghost output = { λ heights. Some (heights_text heights) };
+
+    fn fmt<W: fmt::Write>(&self, f: &mut fmt::Formatter<W>) -> fmt::Result {
+        write!(f, "{} {}", self.height, self.subtree)
+    }
 }
 
 /// Whether a tree of this height has subtrees of that height.
