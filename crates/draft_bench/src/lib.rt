@@ -54,10 +54,8 @@ fn draft_root(seed: [u8; 32]) -> Digest
         maker: &mut maker,
         source: &mut source,
     };
-    match root(HEIGHTS, &mut lent) {
-        Ok(drafted) => drafted.0,
-        Err(_) => unreachable(),
-    }
+    let (root, _) = root(HEIGHTS, &mut lent).unwrap();
+    root
 }
 
 /// Makes as many digests as such a draft, and of messages as long, and writes the last one to the front of
@@ -98,7 +96,7 @@ fn message<const N: usize>(front: [u8; 32]) -> [u8; N]
 }
 
 /// Writes a digest to the front of `out`, if there is room: a `bool`, as the exported calls here answer.
-/// `hash_bench` has the same, in another archive.
+/// `hash_bench` has the same: a crate for both would be a library more, for four lines.
 fn write_front(digest: [u8; 32], out: &mut [u8]) -> bool
     ensures short { length out.old < 32 → (result ≡ false) × (out.new ≡ out.old) }
     ensures written { 32 ≤ length out.old → (result ≡ true) × (out.new ≡ digest ++ drop 32 out.old) }

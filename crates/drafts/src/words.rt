@@ -38,15 +38,9 @@ impl fmt::Display for Answer {
 /// root; or the refusal of the turn.
 #[derive(Drop)]
 pub enum Ending {
-    Closed {
-        root: String,
-        totals: Totals,
-    },
+    Closed { root: String, totals: Totals },
     Rootless(Refusal),
-    Abandoned {
-        early: TooEarly,
-        made: Made,
-    },
+    Abandoned { early: TooEarly, made: Made },
 }
 
 impl fmt::Display for Ending {
