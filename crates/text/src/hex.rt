@@ -29,8 +29,7 @@ pub fn node_hex<M: Maker>(heap: Global, maker: &M, node: M::Node) -> Result<Stri
     ensures { IfOk result (λ s. string_bytes s ≡ hex_text ((M.meaning maker.now).put node)) }
 {
     let mut bytes = vec![in heap; 0; maker.width()]?;
-    // the bytes have the width of a node, so this is never refused
-    let _ = maker.put(node, &mut bytes);
+    maker.put(node, &mut bytes).unwrap();
     format!(in heap; "{}", Hex(&bytes))
 }
 

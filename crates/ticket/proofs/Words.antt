@@ -1,6 +1,6 @@
 -- Words that stand in a text, and where they fail.
-use Rattle.std.proofs.Common.{◌≡◌, ℕ, zero, suc, ◌+◌, ◌<◌, ◌≤◌, Bool, true, false, not, List, [], ◌∷◌, ◌++◌, length, get_or, take, drop, codes, Some, None, Option, Ok, Err, Result, IsSome, unwrap_or, is_ok, Bor, sym, refl, ap, ◌∙◌, arith, length-append}
-use Rattle.std.specs.Option.{option_map, option_eq}
+use Rattle.std.proofs.Common.{◌≡◌, ℕ, zero, suc, ◌+◌, ◌<◌, ◌≤◌, false, List, [], ◌∷◌, ◌++◌, length, get_or, take, drop, codes, Ok, Err, Result, is_ok, ◌≢◌, sym, refl, ap, ◌∙◌, arith, length-append}
+use Rattle.std.proofs.lemmas.List.Prefix.{front_from_reads}
 use Rattle.std.proofs.lemmas.List.{take-append-drop, take-take, take-append-le, length-take-le, get_or-take, get_or_append_left}
 use Rattle.ticket.specs.declared.reader.Wrong.{Wrong}
 use Rattle.ticket.specs.Pieces.{WrongWord, LiteralRead}
@@ -11,14 +11,18 @@ front_byte xs rest k lt =
     let size = length-take-le (k + 1) xs (omega arith) in
     get_or_append_left (take (k + 1) xs) rest 0 k (omega arith) ∙ get_or-take (k + 1) xs k 0 (omega arith)
 
-pub literal_fails : (word xs : List ℕ) (k : ℕ) → k < length word → k ≤ length xs → take k xs ≡ take k word → (k < length xs → get_or xs k 0 ≡ get_or word k 0 → ⊥) → WrongWord {A = Unit {0}} (λ _. Unit {0}) (λ _. word) xs k
-literal_fails word xs k inside within same differs = record {
+-- where a word fails that is not the front
+pub literal_fails : (word xs : List ℕ) (k : ℕ) → k ≤ length word → k ≤ length xs → ((i : ℕ) → i < k → get_or xs i 0 ≡ get_or word i 0) → (k < length word → k < length xs → get_or xs k 0 ≡ get_or word k 0 → ⊥) → ((ys : List ℕ) → xs ≢ word ++ ys) → WrongWord {A = Unit {0}} (λ _. Unit {0}) (λ _. word) xs k
+literal_fails word xs k inside within same differs none = record {
   within = within;
-  begins = (tt, tt, drop k word, sym (take-append-drop k word) ∙ ap (λ l. l ++ drop k word) (sym same));
-  stops = λ lt a g rest e. differs lt (sym (ap (λ l. get_or l k 0) e ∙ front_byte xs rest k lt));
-  none = λ a g ys e.
-      let size = ap length e ∙ length-append word ys in
-      differs (omega arith) (ap (λ l. get_or l k 0) e ∙ get_or_append_left word ys 0 k inside);
+  begins =
+      let size = length-take-le k xs within in
+      (tt, tt, drop (length (take k xs)) word, front_from_reads 0 word (take k xs) (omega arith) (λ i lt. sym (same i (omega arith)) ∙ sym (get_or-take k xs i 0 (omega arith))));
+  stops = λ lt a g rest e.
+      let size = ap length e ∙ length-append (take (k + 1) xs) rest in
+      let more = length-take-le (k + 1) xs (omega arith) in
+      differs (omega arith) lt (sym (ap (λ l. get_or l k 0) e ∙ front_byte xs rest k lt));
+  none = λ a g ys e. none ys e;
 }
 
 -- Among words that reach a place, none goes on there as the bytes do; one of them comes as far.
@@ -45,14 +49,6 @@ word_fails Good word xs k within a good same reach differs = record {
 pub front : (xs : List ℕ) → 0 < length xs → xs ≡ get_or xs 0 0 ∷ drop 1 xs
 front [] some = absurd (omega arith)
 front (x ∷ xs) some = refl
-
--- a byte that is looked up and is another
-pub other_byte : (eq : ℕ → ℕ → Bool) → ((x : ℕ) → eq x x ≡ true) → (found : Option (Bor ℕ)) (wanted : Bor ℕ) → IsSome found → unwrap_or (option_map (λ x. x.now) found) 0 ≡ wanted.now → not (option_eq (λ x y. eq x.now y.now) found (Some wanted)) ≡ true → ⊥
-other_byte eq same None wanted some is differs = cc
-other_byte eq same (Some x) wanted some is differs =
-    let alike : eq x.now wanted.now ≡ true = ap (λ y. eq y wanted.now) is ∙ same wanted.now in
-    let no : false ≡ true = sym (ap not alike) ∙ differs in
-    cc
 
 -- a word of one byte fails at once
 pub one_byte : (b : ℕ) (xs : List ℕ) (k : ℕ) → WrongWord {A = Unit {0}} (λ _. Unit {0}) (λ _. b ∷ []) xs k → k ≡ 0

@@ -32,15 +32,18 @@ impl<'a> Reader<'a> {
     pub(crate) fn literal(&mut self, word: &[u8]) -> Result<(), Wrong>
         ensures { LiteralRead self.old.left.now word.now self.new.left.now result }
     {
-        for (i, byte) in word.iter().enumerate() {
-            if self.left.get(i) != Some(byte) {
-                return Err(Wrong {
-                    left: self.left.len() - i,
-                });
-            }
+        if let Some(rest) = self.left.strip_prefix(word) {
+            self.left = rest;
+            return Ok(());
         }
-        self.left = &self.left[word.len()..];
-        Ok(())
+        let agreed = word
+            .iter()
+            .zip(self.left)
+            .take_while(|(want, byte)| want == byte)
+            .count();
+        Err(Wrong {
+            left: self.left.len() - agreed,
+        })
     }
 
     /// Reads the name of a maker and the line's end.

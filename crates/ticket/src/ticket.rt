@@ -47,7 +47,6 @@ fn reseed(text: &[u8], seed: &mut [u8; SEED_LENGTH], source: &mut SeedSource) ->
     ensures { Unpacks text.now source.old.seed source.new.seed result }
 {
     let job = fields(text, seed)?;
-    // a seed's bytes are never too few
-    let _ = source.reseed(seed);
+    source.reseed(seed).unwrap();
     Ok(job)
 }

@@ -9,7 +9,7 @@ pub(crate) fn push_on<N: Copy>(cells: &mut [N], len: usize, node: N) -> usize
     ensures cells { cells.new ≡ slice_set cells.old len node }
 {
     let mut stack = Stack { cells, len };
-    let _ = stack.push(node);
+    stack.push(node).unwrap();
     stack.len
 }
 
@@ -20,8 +20,5 @@ pub(crate) fn top_of<N: Copy>(cells: &mut [N], len: usize) -> N
     ensures cells { cells.new ≡ cells.old }
 {
     let mut stack = Stack { cells, len };
-    match stack.pop() {
-        Some(node) => node,
-        None => unreachable(),
-    }
+    stack.pop().unwrap()
 }

@@ -1,4 +1,5 @@
-use Rattle.std.proofs.Common.{◌≡◌, ℕ, ◌-◌, ◌≤◌, List, length, take, Ok, Err, Result, MatchResult, ap, ◌∙◌, rules, arith}
+use Rattle.std.proofs.Common.{◌≡◌, ℕ, ◌-◌, ◌≤◌, List, ◌++◌, length, take, drop, Ok, Err, Result, MatchResult, ap, ◌∙◌, rules, arith}
+use Rattle.std.proofs.lemmas.Bool.{le-ltb}
 use Rattle.std.proofs.lemmas.Result.{MatchResult-weaker, err_from_is_err_and}
 use Rattle.ticket.specs.declared.job.Job.{Job}
 use Rattle.ticket.specs.declared.job.Spot.{Spot}
@@ -20,6 +21,12 @@ module _ (text : List ℕ) (r : Result Job Refusal) where
   answers scratch before later (Err wrong) long goes told =
       let place : length text - wrong.left ≡ goes.0.0 = let all = goes.0.1 in omega arith in
       rw told.1 (long, (goes.0.0, goes.0.2, told.2 ∙ ap (λ k. spot_after (take k text) 1 0) place), goes.1)
+
+pub returns-clause-scratch : goal.returns-clause-scratch
+returns-clause-scratch c =
+    let scratch : List ℕ = c.args.scratch.now in
+    let long : 32 ≤ length scratch = search (rules, arith) in
+    rw (le-ltb (length scratch) 32 long) (ap (λ l. l ++ drop 32 scratch) c.unpack.ensures.wiped)
 
 pub returns-clause-answer : goal.returns-clause-answer
 returns-clause-answer c =
