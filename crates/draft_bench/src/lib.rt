@@ -54,8 +54,10 @@ fn draft_root(seed: [u8; 32]) -> Digest
         maker: &mut maker,
         source: &mut source,
     };
-    let (root, _) = root(HEIGHTS, &mut lent).unwrap();
-    root
+    match root(HEIGHTS, &mut lent) {
+        Ok(drafted) => drafted.0,
+        Err(_) => unreachable(),
+    }
 }
 
 /// Makes as many digests as such a draft, and of messages as long, and writes the last one to the front of

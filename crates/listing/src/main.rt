@@ -71,7 +71,7 @@ fn draft<M: Maker + Drop>(
         maker: &mut maker,
         source: &mut source,
     };
-    let (root, (leaves, joins)) = root(job.height, job.subtree, &mut lent)?;
+    let (root, (leaves, joins)) = root(job.heights, &mut lent)?;
     let root = node_hex(heap, &maker, root)?;
     let units = leaves.saturating_add(joins);
     Ok(format!(in heap; "root {root} {units}")?)

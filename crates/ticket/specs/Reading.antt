@@ -1,6 +1,6 @@
 -- What reading a ticket answers, said of the set of all tickets.
 use Rattle.std.specs.Prelude.{◌≡◌, ℕ, ◌+◌, ◌<◌, ◌≤◌, cond, List, [], ◌∷◌, ◌++◌, length, take, drop, replicate, codes, Ok, Err, Result, ◌==◌, nat_lt}
-use Rattle.tree.specs.Refusals.{spaced}
+use Rattle.tree.specs.Refusals.{short_numbered, spaced}
 use Rattle.ticket.specs.declared.job.Job.{Job}
 use Rattle.ticket.specs.declared.job.Refusal.{Refusal}
 use Rattle.ticket.specs.declared.job.Refusal.TheVariants.{Short, NoTicket}
@@ -32,7 +32,7 @@ spot_after (x ∷ xs) line column = cond (x == 10) (spot_after xs (line + 1) 0) 
 abbrev pub Says : List ℕ → Job → List ℕ → Type 0
 Says bs job seed =
     (t : Ticket) × Sayable t × (bs ≡ ticket_text t)
-    × (job.kind ≡ t.kind) × (job.height ≡ t.height) × (job.subtree ≡ t.subtree) × (seed ≡ t.seed)
+    × (job.kind ≡ t.kind) × (job.heights.height ≡ t.height) × (job.heights.subtree ≡ t.subtree) × (seed ≡ t.seed)
 
 -- Reading the fields: what the text says, and its seed; or how many bytes are left where it goes wrong.
 abbrev pub FieldsRead : List ℕ → List ℕ → Result Job Wrong → Type 0
@@ -55,7 +55,7 @@ Unpacks bs before later (Err wrong) = WrongLeft IsTicket bs wrong.left × (later
 -- is too short, which comes first, or where the text goes wrong.
 abbrev pub Answers : List ℕ → List ℕ → List ℕ → List ℕ → Result Job Refusal → Type 0
 Answers bs scratch before later (Ok job) = (32 ≤ length scratch) × Says bs job later
-Answers bs scratch before later (Err (Short needed)) = (length scratch < 32) × (needed ≡ 32) × (later ≡ before)
+Answers bs scratch before later (Err (Short short)) = (length scratch < 32) × (short.needed ≡ 32) × (later ≡ before)
 Answers bs scratch before later (Err (NoTicket spot)) =
     (32 ≤ length scratch)
     × ((p : ℕ) × WrongAt IsTicket bs p × ((spot.line, spot.column) ≡ spot_after (take p bs) 1 0))
@@ -63,7 +63,7 @@ Answers bs scratch before later (Err (NoTicket spot)) =
 
 -- the number of a refusal, and the values that it returns
 abbrev pub numbered : Refusal → ℕ × List ℕ
-numbered (Short needed) = (7, needed ∷ [])
+numbered (Short short) = short_numbered short
 numbered (NoTicket spot) = (15, spot.line ∷ spot.column ∷ [])
 
 -- a refusal in print: its number and its values

@@ -1,8 +1,11 @@
 ghost use Rattle.std.specs.Prelude.{◌≡◌, Some};
 ghost use Rattle.ticket.specs.Reading.{numbered, refusal_text};
+ghost use Rattle.ticket.specs.declared.job.Refusal.TheVariants.{Short};
 
 use std::error::Error;
 use std::fmt;
+use tree::fault::TooShort;
+use tree::geometry::Heights;
 // A ticket asks for a kind of maker as a strip does, so the kinds are the tree's.
 pub use tree::kind::Kind;
 
@@ -10,8 +13,7 @@ pub use tree::kind::Kind;
 #[derive(Clone, Copy, Debug, PartialEq, Eq)]
 pub struct Job {
     pub kind: Kind,
-    pub height: u32,
-    pub subtree: u32,
+    pub heights: Heights,
 }
 
 /// A place in a text: the line counts from 1, the column from 0.
@@ -24,20 +26,20 @@ pub struct Spot {
 /// Why a ticket is not read.
 #[derive(Clone, Copy, Debug, PartialEq, Eq)]
 pub enum Refusal {
-    /// The scratch is too short; it should have had so many bytes.
-    Short(usize),
+    /// The scratch is too short.
+    Short(TooShort),
     /// The text is no ticket; this byte is wrong or missing.
     NoTicket(Spot),
 }
 
 impl Refusal {
-    /// The number by which a refusal is known outside. It is one fact of a refusal, not the refusal in
-    /// another form, so it is no conversion.
+    /// The number by which a refusal is known outside. It is one fact of a refusal, not the refusal in another
+    /// form, so this is no conversion.
     pub fn number(self) -> u8
         ensures { result ≡ (numbered self).0 }
     {
         match self {
-            Refusal::Short(_) => 7,
+            Refusal::Short(short) => short.number(),
             Refusal::NoTicket(_) => 15,
         }
     }
@@ -50,7 +52,7 @@ impl fmt::Display for Refusal {
     fn fmt<W: fmt::Write>(&self, f: &mut fmt::Formatter<W>) -> fmt::Result {
         let number = self.number();
         match self {
-            Refusal::Short(needed) => write!(f, "refused {number} {needed}"),
+            Refusal::Short(short) => write!(f, "{short}"),
             Refusal::NoTicket(Spot { line, column }) => {
                 write!(f, "refused {number} {line} {column}")
             }
@@ -59,3 +61,11 @@ impl fmt::Display for Refusal {
 }
 
 impl Error for Refusal {}
+
+impl From<TooShort> for Refusal {
+    ghost from_gives = { λ short r. r ≡ Short short };
+
+    fn from(short: TooShort) -> Refusal {
+        Refusal::Short(short)
+    }
+}

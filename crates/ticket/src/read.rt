@@ -2,7 +2,9 @@ ghost use Rattle.std.specs.Prelude.{◌≡◌};
 ghost use Rattle.ticket.specs.Reading.{FieldsRead, spot_after};
 
 use crate::job::{Job, Spot};
-use crate::reader::{Reader, SEED_LENGTH, Wrong};
+use crate::reader::{Reader, Wrong};
+use tree::geometry::Heights;
+use tree::seed::SEED_LENGTH;
 
 /// Reads the fields of a ticket, and its seed; or finds the first byte that no ticket has there.
 pub(crate) fn fields(text: &[u8], seed: &mut [u8; SEED_LENGTH]) -> Result<Job, Wrong>
@@ -21,8 +23,7 @@ pub(crate) fn fields(text: &[u8], seed: &mut [u8; SEED_LENGTH]) -> Result<Job, W
     reader.end()?;
     Ok(Job {
         kind,
-        height,
-        subtree,
+        heights: Heights { height, subtree },
     })
 }
 

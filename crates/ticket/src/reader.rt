@@ -4,9 +4,7 @@ ghost use Rattle.ticket.specs.Texts.{kind_line};
 
 use crate::job::Kind;
 use strip::hex::digit;
-
-/// How many bytes a seed has.
-pub(crate) const SEED_LENGTH: usize = 32;
+use tree::seed::SEED_LENGTH;
 
 /// Reads a text from the front, piece by piece. A word that is refused is left unread; of a number or a seed
 /// that is refused, the front may have been read.

@@ -3,8 +3,9 @@ ghost use Rattle.ticket.specs.Reading.{left_in, Unpacks, Answers};
 
 use crate::job::{Job, Refusal};
 use crate::read::{fields, spot};
-use crate::reader::{SEED_LENGTH, Wrong};
-use tree::seed::SeedSource;
+use crate::reader::Wrong;
+use tree::fault::TooShort;
+use tree::seed::{SEED_LENGTH, SeedSource};
 
 /// Holds the bytes where a seed is unpacked, and wipes them when it goes.
 struct Wipe<'a>(&'a mut [u8; SEED_LENGTH]);
@@ -24,9 +25,9 @@ pub fn read(text: &[u8], scratch: &mut [u8], source: &mut SeedSource) -> Result<
     ensures scratch { scratch.new ≡ left_in scratch.old }
     ensures answer { Answers text.now scratch.old source.old.seed source.new.seed result }
 {
-    let Some(seed) = scratch.first_chunk_mut() else {
-        return Err(Refusal::Short(SEED_LENGTH));
-    };
+    let seed = scratch.first_chunk_mut().ok_or(TooShort {
+        needed: SEED_LENGTH,
+    })?;
     unpack(text, seed, source).map_err(|wrong| {
         let before = &text[..text.len() - wrong.left];
         Refusal::NoTicket(spot(before))

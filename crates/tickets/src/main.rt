@@ -8,15 +8,15 @@ use std::io::Read;
 use text::damage::{each_change, each_cut};
 use ticket::job::Job;
 use ticket::ticket::read;
-use tree::geometry::size;
+use tree::geometry::{Heights, size};
 use tree::seed::SeedSource;
 use tree::source::Source;
 
 /// The bits that are inverted in each byte, one at a time.
 const BITS: [u8; 2] = [1, 64];
 
-/// Heights of trees and of their subtrees, legal and not: a row of figures each, which is taken apart where it is
-/// read.
+/// Heights of trees and of their subtrees, legal and not. Each row is a tuple, since rows of named fields would
+/// take four lines each.
 const HEIGHTS: [(u32, u32); 8] = [
     (1, 1),
     (4, 1),
@@ -37,7 +37,7 @@ fn main(rt: HostRuntime) -> anyhow::Result<()> {
     text.push(b'\n')?;
     tell(&rt, "one more", &text)?;
     for (height, subtree) in HEIGHTS {
-        tell_size(&rt, height, subtree)?;
+        tell_size(&rt, Heights { height, subtree })?;
     }
     Ok(())
 }
@@ -49,12 +49,8 @@ fn tell<D: Display + Copy>(rt: &HostRuntime, what: D, text: &[u8]) -> anyhow::Re
     match read(text, &mut scratch, &mut source) {
         Ok(job) => {
             let token = first_token(&mut source);
-            let Job {
-                kind,
-                height,
-                subtree,
-            } = job;
-            println!(rt; "{what}: {kind} {height} {subtree} {token}")?;
+            let Job { kind, heights } = job;
+            println!(rt; "{what}: {kind} {heights} {token}")?;
         }
         Err(refusal) => println!(rt; "{what}: {refusal}")?,
     }
@@ -64,15 +60,16 @@ fn tell<D: Display + Copy>(rt: &HostRuntime, what: D, text: &[u8]) -> anyhow::Re
 /// The first four bytes of the first token, as a number.
 fn first_token(source: &mut SeedSource) -> u32 {
     let mut token = [0; 32];
+    // a seed has a first token
     let _ = source.token(0, &mut token);
     let [a, b, c, d, ..] = token;
     u32::from_be_bytes([a, b, c, d])
 }
 
-fn tell_size(rt: &HostRuntime, height: u32, subtree: u32) -> anyhow::Result<()> {
-    match size(height, subtree) {
-        Ok(cells) => println!(rt; "size {height} {subtree}: {cells}")?,
-        Err(refusal) => println!(rt; "size {height} {subtree}: {refusal}")?,
+fn tell_size(rt: &HostRuntime, heights: Heights) -> anyhow::Result<()> {
+    match size(heights) {
+        Ok(cells) => println!(rt; "size {heights}: {cells}")?,
+        Err(refusal) => println!(rt; "size {heights}: {refusal}")?,
     }
     Ok(())
 }

@@ -9,10 +9,10 @@ use crate::source::Source;
 use hashing::digest;
 
 /// How many bytes a seed has.
-const SEED: usize = 32;
+pub const SEED_LENGTH: usize = 32;
 
 /// How many bytes a token is the hash of: the seed and a number.
-const SEEDED: usize = SEED + 4;
+const SEEDED: usize = SEED_LENGTH + 4;
 
 /// How many tokens a seed yields.
 const TOKENS: u32 = 1 << GREATEST;
@@ -20,11 +20,11 @@ const TOKENS: u32 = 1 << GREATEST;
 /// Tokens from a secret seed.
 #[derive(Drop)]
 pub struct SeedSource {
-    seed: [u8; SEED],
+    seed: [u8; SEED_LENGTH],
 }
 
 impl SeedSource {
-    pub fn new(seed: [u8; SEED]) -> SeedSource
+    pub fn new(seed: [u8; SEED_LENGTH]) -> SeedSource
         ensures { result.seed ≡ seed }
     {
         SeedSource { seed }
@@ -34,7 +34,7 @@ impl SeedSource {
     pub fn reseed(&mut self, seed: &[u8]) -> Result<(), TooShort>
         ensures { Reseeds self.old.seed seed.now self.new.seed result }
     {
-        let front = seed.first_chunk::<SEED>().ok_or(TooShort { needed: SEED })?;
+        let front = seed.first_chunk::<SEED_LENGTH>().ok_or(TooShort { needed: SEED_LENGTH })?;
         self.seed = *front;
         Ok(())
     }
