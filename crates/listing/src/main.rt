@@ -52,19 +52,19 @@ fn list(heap: Global, text: &[u8]) -> Result<String, Failure> {
     let mut source = SeedSource::new([0; 32]);
     let job = read(text, &mut [0; 32], &mut source)?;
     match job.kind {
-        Kind::Sealed => draft(heap, job, source, Sealed::new(), Digest { bytes: [0; 32] }),
-        Kind::Dummy => draft(heap, job, source, Dummy::new(), Span::Broken),
+        Kind::Sealed => draft::<Sealed>(heap, job, source, Digest { bytes: [0; 32] }),
+        Kind::Dummy => draft::<Dummy>(heap, job, source, Span::Broken),
     }
 }
 
 /// Drafts the tree of a job, in a table that is full of one node before: its root, and how many nodes were made.
-fn draft<M: Maker + Drop>(
+fn draft<M: Maker + Default + Drop>(
     heap: Global,
     job: Job,
     mut source: SeedSource,
-    mut maker: M,
     filler: M::Node,
 ) -> Result<String, Failure> {
+    let mut maker = M::default();
     let mut table = vec![in heap; filler; CELLS]?;
     let mut lent = Lent {
         table: &mut table,

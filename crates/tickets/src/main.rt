@@ -60,8 +60,7 @@ fn tell<D: Display + Copy>(rt: &HostRuntime, what: D, text: &[u8]) -> anyhow::Re
 /// The first four bytes of the first token, as a number.
 fn first_token(source: &mut SeedSource) -> u32 {
     let mut token = [0; 32];
-    // a seed has a first token
-    let _ = source.token(0, &mut token);
+    source.token(0, &mut token).unwrap();
     let [a, b, c, d, ..] = token;
     u32::from_be_bytes([a, b, c, d])
 }
