@@ -7,7 +7,7 @@ use anyhow::anyhow;
 use std::io;
 use std::process::ExitCode;
 use strip::judge::judge;
-use text::answer::answer;
+use text::answer::Verdict;
 use text::hex::decode;
 
 /// The message is printed here, under the program's name, and not by returning the error.
@@ -30,6 +30,6 @@ fn run(rt: &HostRuntime) -> anyhow::Result<()> {
     };
     let root = decode(heap, root.as_bytes())?;
     let strip = decode(heap, strip.as_bytes())?;
-    rt.println(answer(heap, judge(&root, &strip))?)?;
+    println!(rt; "{}", Verdict(judge(&root, &strip)))?;
     Ok(())
 }

@@ -6,7 +6,7 @@
 use std::alloc::{AllocError, Global};
 use std::fmt::Display;
 use strip::judge::judge;
-use text::answer::answer;
+use text::answer::Verdict;
 use text::damage::{each_change, each_cut};
 use text::hex::decode;
 
@@ -52,7 +52,7 @@ fn tell<D: Display + Copy>(
     root: &[u8],
     strip: &[u8],
 ) -> anyhow::Result<()> {
-    let words = answer(rt.alloc(), judge(root, strip))?;
-    println!(rt; "{what}: {words}")?;
+    let verdict = Verdict(judge(root, strip));
+    println!(rt; "{what}: {verdict}")?;
     Ok(())
 }

@@ -32,6 +32,7 @@ pub fn absorb_end(hash: State, rest: &[u8], total: usize) -> State
     if total == BLOCK {
         return hash.absorb_padding();
     }
+    // room for the longest end, and how much of it is used: the library takes no memory
     let mut end = [0; END];
     let size = rest.len() + 1 + zero_bytes(total) + LENGTH;
     end[..rest.len()].copy_from_slice(rest);

@@ -106,7 +106,8 @@ impl State {
     }
 
     /// The hash value after one more block.
-    // The last row is taken by index: the check does not cover the pattern `[front @ .., last]` on the table.
+    // The last row is taken by index: the check does not cover the pattern `[front @ .., last]` on the table, and
+    // `split_last` would be no plainer, since it answers an `Option` that is never none.
     fn compress(self, block: &[u8; BLOCK]) -> State
         ensures { result ≡ compressed self block.now }
     {

@@ -1,24 +1,21 @@
-ghost use Rattle.std.specs.Prelude.{◌≡◌, IfOk, string_bytes};
-ghost use Rattle.strip.specs.Refusals.{refusal_line};
+ghost use Rattle.std.specs.Prelude.{Some};
 ghost use Rattle.text.specs.Answers.{answer_line};
 
-use std::alloc::{AllocError, Global};
+use std::fmt;
 use strip::refusal::Refusal;
 
-/// A verdict in words: yes, no, or why there is none.
-pub fn answer(heap: Global, verdict: Result<bool, Refusal>) -> Result<String, AllocError>
-    ensures { IfOk result (λ s. string_bytes s ≡ answer_line verdict) }
-{
-    match verdict {
-        Ok(true) => String::from_str(heap, "yes"),
-        Ok(false) => String::from_str(heap, "no"),
-        Err(refusal) => refused(heap, refusal),
-    }
-}
+/// What a judgement came to, to be shown: yes, no, or why there is none. `Result` has no `Display`.
+#[derive(Clone, Copy)]
+pub struct Verdict(pub Result<bool, Refusal>);
 
-/// A refusal by its number and its values.
-pub fn refused(heap: Global, refusal: Refusal) -> Result<String, AllocError>
-    ensures { IfOk result (λ s. string_bytes s ≡ refusal_line refusal) }
-{
-    format!(in heap; "{refusal}")
+impl fmt::Display for Verdict {
+    ghost output = { λ verdict. Some (answer_line verdict.0) };
+
+    fn fmt<W: fmt::Write>(&self, f: &mut fmt::Formatter<W>) -> fmt::Result {
+        match self.0 {
+            Ok(true) => f.write_str("yes"),
+            Ok(false) => f.write_str("no"),
+            Err(refusal) => write!(f, "{refusal}"),
+        }
+    }
 }

@@ -17,7 +17,8 @@ const ONE_BLOCK: [u8; 64] = [
     0xf3, 0x35, 0x39, 0x03, 0x94, 0xc3, 0x7f, 0xa1, 0xa9, 0xf9, 0xbe, 0x83, 0x6a, 0xc2, 0x85, 0x09,
 ];
 
-/// The digit of a number below 16. `text::hex::Hex` writes the same digits, but this program sees `hashing` alone.
+/// The digit of a number below 16. It is written here, and so are the pair and the text, since std writes digits as
+/// `char`s or to a formatter, and an array of bytes is compared without memory.
 fn hex_digit(n: u8) -> u8
     requires { n < 16 }
     ensures { result ≡ hex_digit n }
