@@ -1,5 +1,5 @@
 -- Where a faultless strip leads.
-use Rattle.std.proofs.Common.{◌≡◌, ℕ, ◌+◌, ◌*◌, ◌/◌, ◌^◌, ◌<◌, Bool, true, eqb, List, length, get_or, Some, None, Ok, Err, Result, sym, ap, ◌∙◌, ap₂, mul_comm, arith, length-drop}
+use Rattle.std.proofs.Common.{◌≡◌, ℕ, ◌+◌, ◌*◌, ◌/◌, ◌^◌, ◌<◌, Bool, true, eqb, List, length, get_or, is_some, Some, None, Ok, Err, Result, sym, ap, ◌∙◌, ap₂, mul_comm, arith, length-drop}
 use Rattle.std.proofs.lemmas.Nat.{div-mul-add}
 use Rattle.std.proofs.lemmas.Bool.{cond-true, eq-eqb, ne_eqb, lt-ltb}
 use Rattle.std.proofs.lemmas.Bool.Decides.{when_true, when_false}
@@ -24,10 +24,10 @@ use Rattle.strip.proofs.Faultless.{Faultless, faultless}
 use Rattle.strip.proofs.Written.{holds, kind_at}
 
 -- a path of nodes alone folds
-pub nodes_fold : {N : Type 0} (m : Meaning N) (s : Strip) → OnlyNodes m s → (n : ℕ) (x : N) → folded m n x s.path.now ≡ Some (leads_to m.join n x (path_nodes m s.path.now))
+pub nodes_fold : {N : Type 0} (m : Meaning N) (s : Strip) → OnlyNodes m s → (n : ℕ) (x : N) → is_some (folded m n x s.path.now) ≡ true
 nodes_fold m s only n x =
     let whole : m.width * length (path_nodes m s.path.now) ≡ length s.path.now = ap (λ k. m.width * k) only.count ∙ mul_comm m.width s.height ∙ sym only.size in
-    cond-true (eqb (m.width * length (path_nodes m s.path.now)) (length s.path.now)) (Some (leads_to m.join n x (path_nodes m s.path.now))) None (eq-eqb _ _ whole)
+    ap is_some (cond-true (eqb (m.width * length (path_nodes m s.path.now)) (length s.path.now)) (Some (leads_to m.join n x (path_nodes m s.path.now))) None (eq-eqb _ _ whole))
 
 module _ {N : Type 0} (m : Meaning N) (lawful : Lawful m) (bs : List ℕ) where
   -- the path's bytes are nodes from end to end

@@ -26,8 +26,6 @@ pub(crate) fn leads_to<M: Maker>(maker: &mut M, strip: &Strip, root: M::Node) ->
     ensures counts { M.meter maker.new ≡ after 1 strip.now.height (M.meter maker.old) }
 {
     let leaf = maker.leaf(strip.number, strip.token);
-    let Some(top) = fold(maker, strip.number, leaf, strip.path) else {
-        unreachable()
-    };
+    let top = fold(maker, strip.number, leaf, strip.path).unwrap();
     maker.same(top, root)
 }
