@@ -1,4 +1,4 @@
-use Rattle.std.proofs.Common.{Ok, arith, rules}
+use Rattle.std.proofs.Common.{◌≡◌, length, Ok, arith, rules}
 use Rattle.std.proofs.lemmas.Grind.{common_steps}
 use Rattle.strip.proofs.Leading.{parsed_nodes, parsed_leads, accepts_root}
 use Rattle.strip.proofs.judge.judge_with.Goals as goal
@@ -11,11 +11,13 @@ returns-in_err-strip-clause-full_tree g c =
 pub leads_to-requires : goal.leads_to-requires
 leads_to-requires g c =
     let maker = c.args.maker.now in
-    parsed_nodes (g.M.Maker.meaning maker) (g.met.M.Maker.lawful maker) c.args.bytes.now c.in_ok-strip.strip c.in_ok-strip.ensures
+    let nodes = parsed_nodes (g.M.Maker.meaning maker) (g.met.M.Maker.lawful maker) c.args.bytes.now c.in_ok-strip.strip c.in_ok-strip.ensures in
+    search rules
 
 pub returns-clause-answer : goal.returns-clause-answer
 returns-clause-answer g c =
     let maker = c.args.maker.now in
+    let fits : length c.args.root.now ≡ (g.M.Maker.meaning maker).width = omega arith in
     let leads = parsed_leads (g.M.Maker.meaning maker) (g.met.M.Maker.lawful maker) c.args.bytes.now c.in_ok-strip.strip c.in_ok-strip.ensures in
     rw (← leads) (grind (arith, common_steps))
 

@@ -97,7 +97,7 @@ returns-then-bytes-end g c =
     let went = walk g (goal.at.returns-then-bytes-end g c).After-take found.0 found.1 in
     let all = found.2.1 (λ a r f called. search rules) in
     let came = begins m bs went _ (λ x called. search rules) found.0.len went.upto went.within (λ k lt. there _ (found.0.at k) _ (found.0.reads k c.args.bytes lt) (all k)) in
-    ends_whole bs m c.args.height came (went.over found.2.0) (c.if-bytes-end.true ∙ c.strip_length-end.ensures)
+    ends_whole bs m c.args.height came (went.over found.2.0) (omega arith)
 
 pub returns-else-bytes-end : goal.returns-else-bytes-end
 returns-else-bytes-end g c =
@@ -108,6 +108,6 @@ returns-else-bytes-end g c =
     let all = found.2.1 (λ a r f called. search rules) in
     let came = begins m bs went _ (λ x called. search rules) found.0.len went.upto went.within (λ k lt. there _ (found.0.at k) _ (found.0.reads k c.args.bytes lt) (all k)) in
     let end = c.strip_length-end.ensures in
-    ends_other bs m c.args.height came (went.over found.2.0) (λ same. c.if-bytes-end.false (same ∙ sym end))
+    ends_other bs m c.args.height came (went.over found.2.0) (omega arith)
     ∙ ap (λ p. Some (fault p Path)) (ap (λ e. min e (length bs)) (sym end) ∙ sym c.min.ensures)
     ∙ ap Some (sym c.at-else-bytes-end.ensures)
