@@ -14,7 +14,7 @@ module _ {N : Type 0} (m : Meaning N) where
     pub chunk_behind : drop m.width bytes ≡ later
     chunk_behind = ap (drop m.width) split ∙ drop_at node later m.width size
 
-    pub chunk_reads : front_node m node ≡ m.read (take m.width bytes)
+    chunk_reads : front_node m node ≡ m.read (take m.width bytes)
     chunk_reads =
         cond-false (ltb (length node) m.width) None (m.read (take m.width node)) (le-ltb _ _ (omega arith))
         ∙ ap m.read (take_all m.width node (omega arith) ∙ sym (ap (take m.width) split ∙ take_at node later m.width size))

@@ -1,5 +1,5 @@
 -- Cells filled with the nodes of a path, one after another.
-use Rattle.std.proofs.Common.{◌≡◌, ℕ, ◌+◌, ◌-◌, ◌*◌, ◌/◌, ◌<◌, ◌≤◌, List, [], ◌∷◌, ◌++◌, length, take, drop, set, Some, None, sym, ap, ◌∙◌, subst, ⊎_elim, add-mul, one-mul, arith, length-append}
+use Rattle.std.proofs.Common.{◌≡◌, ℕ, ◌+◌, ◌-◌, ◌*◌, ◌/◌, ◌<◌, ◌≤◌, List, [], ◌∷◌, ◌++◌, length, take, drop, set, true, is_some, Some, None, Option, refl, sym, ap, ◌∙◌, subst, ⊎_elim, add-mul, one-mul, arith, length-append}
 use Rattle.std.proofs.lemmas.List.{append_assoc, append-nil, drop-drop, drop-set-lt, take-append-drop, take_more_set}
 use Rattle.std.proofs.lemmas.Bool.{cases_lt}
 use Rattle.tree.specs.Meaning.{Meaning}
@@ -39,6 +39,11 @@ module _ {N : Type 0} (m : Meaning N) (path : List ℕ) (H : ℕ) (before : List
         ∙ ap (λ l. l ++ drop i cells) whole
         ∙ ap (λ l. nodes_of m H path ++ l) (so_far.kept ∙ ap (λ k. drop k before) done)
 
+-- what is not None is there
+found : {N : Type 0} (o : Option N) → (None ≡ o → ⊥) → is_some o ≡ true
+found None none = absurd (none refl)
+found (Some x) none = refl
+
 -- the same, chunk by chunk
 module _ {N : Type 0} (m : Meaning N) (least : 1 ≤ m.width) (path : List ℕ) (before : List N) {i : ℕ} {rest : List ℕ} {cells : List N} (so_far : Filled m path (length path / m.width) before i rest cells) (all : i * m.width + length rest ≡ length path) where
   module _ (node later : List ℕ) (split : rest ≡ node ++ later) (fills : length node ≡ m.width) where
@@ -51,8 +56,8 @@ module _ {N : Type 0} (m : Meaning N) (least : 1 ≤ m.width) (path : List ℕ) 
         let long = ap length split ∙ length-append node later in
         omega arith
 
-    pub chunk_not_none : None ≡ front_node m node → ⊥
-    chunk_not_none e = not_none m path _ before so_far chunk_within (e ∙ chunk_front m rest node later split fills)
+    pub chunk_found : is_some (front_node m node) ≡ true
+    chunk_found = found (front_node m node) (λ e. not_none m path _ before so_far chunk_within (e ∙ chunk_front m rest node later split fills))
 
     pub chunk_filled : i < length cells → (x : N) → Some x ≡ front_node m node → Filled m path (length path / m.width) before (i + 1) later (set cells i x)
     chunk_filled room x e =

@@ -1,5 +1,5 @@
 -- Where a faultless strip leads.
-use Rattle.std.proofs.Common.{◌≡◌, ℕ, ◌+◌, ◌*◌, ◌/◌, ◌^◌, ◌<◌, Bool, true, eqb, List, length, get_or, Some, None, Ok, Err, Result, sym, ap, ◌∙◌, ap₂, mul_comm, arith, length-drop}
+use Rattle.std.proofs.Common.{◌≡◌, ℕ, ◌+◌, ◌*◌, ◌/◌, ◌^◌, ◌<◌, Bool, true, eqb, List, length, get_or, is_some, Some, None, Ok, Err, Result, sym, ap, ◌∙◌, ap₂, mul_comm, arith, length-drop}
 use Rattle.std.proofs.lemmas.Nat.{div-mul-add}
 use Rattle.std.proofs.lemmas.Bool.{cond-true, eq-eqb, ne_eqb, lt-ltb}
 use Rattle.std.proofs.lemmas.Bool.Decides.{when_true, when_false}
@@ -14,11 +14,20 @@ use Rattle.tree.specs.Sealing.{sealed_lawful}
 use Rattle.tree.specs.Spanning.{dummy_lawful}
 use Rattle.strip.specs.declared.refusal.Refusal.{Refusal}
 use Rattle.strip.specs.declared.refusal.Refusal.TheVariants.{Short}
-use Rattle.strip.specs.Format.{strip_bytes, height_in, number_in, token_in, path_in, fault_in}
+use Rattle.strip.specs.Format.{strip_bytes, height_in, path_in, fault_in}
 use Rattle.strip.specs.Refusals.{or_else}
+use Rattle.strip.specs.declared.parse.Strip.{Strip}
+use Rattle.strip.specs.Sections.{Parsed}
+use Rattle.strip.specs.Parts.{OnlyNodes, strip_leads}
 use Rattle.strip.specs.Calls.{nodes_in, leads, Holds, Checks, AcceptsFullTree, Judges, AcceptsRoot, JudgesByKind}
 use Rattle.strip.proofs.Faultless.{Faultless, faultless}
 use Rattle.strip.proofs.Written.{holds, kind_at}
+
+-- a path of nodes alone folds
+pub nodes_fold : {N : Type 0} (m : Meaning N) (s : Strip) → OnlyNodes m s → (n : ℕ) (x : N) → is_some (folded m n x s.path.now) ≡ true
+nodes_fold m s only n x =
+    let whole : m.width * length (path_nodes m s.path.now) ≡ length s.path.now = ap (λ k. m.width * k) only.count ∙ mul_comm m.width s.height ∙ sym only.size in
+    ap is_some (cond-true (eqb (m.width * length (path_nodes m s.path.now)) (length s.path.now)) (Some (leads_to m.join n x (path_nodes m s.path.now))) None (eq-eqb _ _ whole))
 
 module _ {N : Type 0} (m : Meaning N) (lawful : Lawful m) (bs : List ℕ) where
   -- the path's bytes are nodes from end to end
@@ -31,31 +40,22 @@ module _ {N : Type 0} (m : Meaning N) (lawful : Lawful m) (bs : List ℕ) where
   pub path_nodes_in : Faultless m bs → path_nodes m (path_in bs) ≡ nodes_in m bs
   path_nodes_in ok = ap (λ k. nodes_of m k (path_in bs)) (path_chunks ok)
 
-  pub folded_in : Faultless m bs → (n : ℕ) (x : N) → folded m n x (path_in bs) ≡ Some (leads_to m.join n x (nodes_in m bs))
-  folded_in ok n x =
-      let nodes = path_nodes_in ok in
-      let size = ok.size in
-      let whole : m.width * length (path_nodes m (path_in bs)) ≡ length (path_in bs) =
-      ap (λ l. m.width * length l) nodes ∙ ap (λ k. m.width * k) ok.nodes ∙ mul_comm m.width (height_in bs) ∙ sym (simp length-drop (omega arith)) in
-      cond-true (eqb (m.width * length (path_nodes m (path_in bs))) (length (path_in bs))) (Some (leads_to m.join n x (path_nodes m (path_in bs)))) None (eq-eqb _ _ whole)
-      ∙ ap (λ l. Some (leads_to m.join n x l)) nodes
+  -- a strip that was taken apart
+  module _ (s : Strip) (parsed : Parsed m bs (Ok s)) where
+    nodes_here : path_nodes m s.path.now ≡ nodes_in m bs
+    nodes_here = ap (path_nodes m) parsed.4 ∙ path_nodes_in (faultless m bs parsed.0)
 
-  -- what the check finds, from what it calls
-  module _ (none : fault_in m bs ≡ None) (n : ℕ) (secret path : List ℕ) (is_number : n ≡ number_in bs) (is-token : secret ≡ token_in bs) (is-path : path ≡ path_in bs) where
-    folded_here : (x : N) → folded m n x path ≡ Some (leads_to m.join n x (nodes_in m bs))
-    folded_here x = ap (folded m n x) is-path ∙ folded_in (faultless m bs none) n x
+    pub parsed_nodes : OnlyNodes m s
+    parsed_nodes =
+        let ok = faultless m bs parsed.0 in
+        let size = ok.size in
+        record {
+          size = ap length parsed.4 ∙ simp length-drop (omega arith) ∙ ap (λ k. k * m.width) (sym parsed.1);
+          count = ap length nodes_here ∙ ok.nodes ∙ sym parsed.1;
+        }
 
-    pub never_none : (x : N) → None ≡ folded m n x path → ⊥
-    never_none x e = let is = folded_here x in cc
-
-    pub leads_up : (x y : N) → x ≡ m.leaf n secret → Some y ≡ folded m n x path → y ≡ leads m bs
-    leads_up x y leaf e =
-        let is = folded_here x in
-        let top : y ≡ leads_to m.join n x (nodes_in m bs) = cc in
-        top ∙ ap₂ (λ k z. leads_to m.join k z (nodes_in m bs)) is_number (leaf ∙ ap₂ m.leaf is_number is-token)
-
-    pub nodes_made : length (path_nodes m path) ≡ height_in bs
-    nodes_made = ap (λ l. length (path_nodes m l)) is-path ∙ ap length (path_nodes_in (faultless m bs none)) ∙ (faultless m bs none).nodes
+    pub parsed_leads : strip_leads m s ≡ leads m bs
+    parsed_leads = λ i. leads_to m.join (parsed.2 i) (m.leaf (parsed.2 i) (parsed.3 i)) (nodes_here i)
 
   -- the strips of the full tree
   module _ (tokens : ℕ → List ℕ) (H n : ℕ) (legal : legal_height H ≡ true) (below : n < 2 ^ H) (long : length (tokens n) ≡ 32) (is-strip : bs ≡ strip_bytes m H n (tokens n) (path_of m tokens H n)) where

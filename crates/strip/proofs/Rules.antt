@@ -1,12 +1,9 @@
 -- Rules for bytes, one after another.
-use Rattle.std.proofs.Common.{◌≡◌, ℕ, suc, ◌+◌, ◌-◌, ◌*◌, ◌<◌, ◌≤◌, min, Bool, true, false, cond, ltb, List, [], ◌∷◌, ◌++◌, length, take, drop, is_some, Some, None, Option, sym, refl, ap, ◌∙◌, ap₂, subst, ⊎_elim, le_refl, add-mul, one-mul, zero-mul, arith, length-drop}
+use Rattle.std.proofs.Common.{◌≡◌, ℕ, zero, suc, ◌+◌, ◌-◌, ◌*◌, ◌<◌, ◌≤◌, min, Bool, true, false, cond, ltb, List, [], ◌∷◌, ◌++◌, length, take, drop, is_some, Some, None, Option, sym, refl, ap, ◌∙◌, ap₂, subst, ⊎_elim, le_refl, add-mul, one-mul, add-one, zero-mul, arith}
 use native.Mathlib.Nat.{sub-zero}
 use Rattle.std.proofs.lemmas.Bool.{cond-true, cond-false, lt-ltb, le-ltb, le-leb, lt-leb, cases_lt}
-use Rattle.std.proofs.lemmas.List.{drop-drop}
 use Rattle.std.proofs.lemmas.Nat.{mul-le}
 use Rattle.tree.specs.Meaning.{Meaning}
-use Rattle.tree.specs.Path.{front_node}
-use Rattle.strip.proofs.Chunks.{chunk_fits, chunk_behind, chunk_reads}
 use Rattle.strip.specs.declared.refusal.Section.TheVariants.{Path}
 use Rattle.strip.specs.declared.refusal.Fault.{Fault}
 use Rattle.strip.specs.Format.{Rule, fault, first_broken, height_in, head_rules, token_rules, count_rules, node_rules, fault_in}
@@ -42,101 +39,79 @@ module _ (bs : List ℕ) where
       ap (λ o. cond (ltb (length bs) d.upto) (Some (fault (length bs) d.section)) (cond d.right o (Some (fault d.place d.section)))) (rules_then ds es)
       ∙ after_one (ltb (length bs) d.upto) d.right (fault (length bs) d.section) (fault d.place d.section) (first_broken bs ds) (first_broken bs es)
 
+  -- whether a node stands at a place
+  abbrev pub node_at : {N : Type 0} → Meaning N → ℕ → Bool
+  node_at m p = is_some (m.read (take m.width (drop p bs)))
+
   module _ {N : Type 0} (m : Meaning N) (H : ℕ) where
-    -- After i nodes, up to a place: the rules that are left decide.
-    pub record Passed (i p : ℕ) (rest : List ℕ) : Type 0 where
-      pub here : rest ≡ drop p bs
-      pub within : p ≤ length bs
-      pub same : first_broken bs (node_rules m bs p (H - i)) ≡ first_broken bs (node_rules m bs 41 H)
+    -- The path begins with i nodes, and the rules ask for no fewer.
+    pub record Begins (i : ℕ) : Type 0 where
+      pub upto : i ≤ H
+      pub within : 41 + i * m.width ≤ length bs
+      pub nodes : (k : ℕ) → k < i → node_at m (41 + k * m.width) ≡ true
 
-    pub passed_none : (rest : List ℕ) → 41 ≤ length bs → rest ≡ drop 41 bs → Passed 0 (41 + 0 * m.width) rest
-    passed_none rest long e =
-        subst (λ p. Passed 0 p rest) (sym (ap (λ k. 41 + k) (zero-mul m.width)))
-        (record { here = e; within = long; same = ap (λ k. first_broken bs (node_rules m bs 41 k)) (sub-zero H) })
+    next : (i : ℕ) → suc i * m.width ≡ i * m.width + m.width
+    next i = rw (← add-one) (simp (add-mul, one-mul))
 
-    module _ {i p : ℕ} {rest : List ℕ} (so_far : Passed i p rest) where
-      size : length rest + p ≡ length bs
-      size = let e = ap length so_far.here ∙ length-drop p bs in let w = so_far.within in omega arith
+    -- After them the rules that are left decide.
+    left : (i : ℕ) → Begins i → first_broken bs (node_rules m bs (41 + i * m.width) (H - i)) ≡ first_broken bs (node_rules m bs 41 H)
+    left zero begins = ap₂ (λ p k. first_broken bs (node_rules m bs p k)) (ap (λ k. 41 + k) (zero-mul m.width)) (sub-zero H)
+    left (suc i) begins =
+        let one = next i in
+        let upto = begins.upto in
+        let within = begins.within in
+        let more : suc (H - suc i) ≡ H - i = omega arith in
+        let place : 41 + suc i * m.width ≡ 41 + i * m.width + m.width = omega arith in
+        let before : Begins i = record { upto = omega arith; within = omega arith; nodes = λ k lt. begins.nodes k (omega arith) } in
+        ap (λ p. first_broken bs (node_rules m bs p (H - suc i))) place
+        ∙ sym (rule_kept _ (node_rules m bs (41 + i * m.width + m.width) (H - suc i)) (omega arith) (begins.nodes i (omega arith)))
+        ∙ ap (λ k. first_broken bs (node_rules m bs (41 + i * m.width) k)) more
+        ∙ left i before
 
-      -- the rules from here on, with the next node first
-      next : i < H → first_broken bs (node_rules m bs p (suc (H - (i + 1)))) ≡ first_broken bs (node_rules m bs 41 H)
-      next lt = let one : suc (H - (i + 1)) ≡ H - i = omega arith in ap (λ k. first_broken bs (node_rules m bs p k)) one ∙ so_far.same
-
-      pub passed_more : i < H → m.width ≤ length rest → is_some (m.read (take m.width rest)) ≡ true → Passed (i + 1) (p + m.width) (drop m.width rest)
-      passed_more lt long e = record {
-        here = ap (drop m.width) so_far.here ∙ drop-drop m.width p bs;
-        within = let s = size in omega arith;
-        same =
-            let s = size in
-            let good = ap (λ l. is_some (m.read (take m.width l))) (sym so_far.here) ∙ e in
-            sym (rule_kept _ (node_rules m bs (p + m.width) (H - (i + 1))) (omega arith) good) ∙ next lt;
-      }
-
-      pub stops_short : i < H → length rest < m.width → first_broken bs (node_rules m bs 41 H) ≡ Some (fault (length bs) Path)
-      stops_short lt short = let s = size in sym (next lt) ∙ rule_ends _ (node_rules m bs (p + m.width) (H - (i + 1))) (omega arith)
-
-      pub stops_none : i < H → m.width ≤ length rest → is_some (m.read (take m.width rest)) ≡ false → first_broken bs (node_rules m bs 41 H) ≡ Some (fault p Path)
-      stops_none lt long e =
-          let s = size in
-          let bad = ap (λ l. is_some (m.read (take m.width l))) (sym so_far.here) ∙ e in
-          sym (next lt) ∙ rule_broken _ (node_rules m bs (p + m.width) (H - (i + 1))) (omega arith) bad
+    module _ {i : ℕ} (begins : Begins i) where
+      -- with the next node first
+      left_more : i < H → first_broken bs (node_rules m bs (41 + i * m.width) (suc (H - suc i))) ≡ first_broken bs (node_rules m bs 41 H)
+      left_more lt = let one : suc (H - suc i) ≡ H - i = omega arith in ap (λ k. first_broken bs (node_rules m bs (41 + i * m.width) k)) one ∙ left i begins
 
       -- at the end: nothing may be left
-      last : i ≡ H → first_broken bs (node_rules m bs p 0) ≡ first_broken bs (node_rules m bs 41 H)
-      last done = let none : 0 ≡ H - i = omega arith in ap (λ k. first_broken bs (node_rules m bs p k)) none ∙ so_far.same
+      left_none : i ≡ H → first_broken bs (node_rules m bs (41 + H * m.width) 0) ≡ first_broken bs (node_rules m bs 41 H)
+      left_none done = let none : 0 ≡ H - i = omega arith in ap₂ (λ j k. first_broken bs (node_rules m bs (41 + j * m.width) k)) (sym done) none ∙ left i begins
 
-      pub ends_empty : i ≡ H → length rest ≡ 0 → first_broken bs (node_rules m bs 41 H) ≡ None
-      ends_empty done e = let s = size in sym (last done) ∙ rule_kept _ [] so_far.within (le-leb (length bs) p (omega arith))
+      pub stops : i < H → 41 + i * m.width + m.width ≤ length bs → node_at m (41 + i * m.width) ≡ false → first_broken bs (node_rules m bs 41 H) ≡ Some (fault (41 + i * m.width) Path)
+      stops lt long bad = sym (left_more lt) ∙ rule_broken _ (node_rules m bs (41 + i * m.width + m.width) (H - suc i)) long bad
 
-      pub ends_surplus : i ≡ H → (length rest ≡ 0 → ⊥) → first_broken bs (node_rules m bs 41 H) ≡ Some (fault p Path)
-      ends_surplus done some = let s = size in sym (last done) ∙ rule_broken _ [] so_far.within (lt-leb (length bs) p (omega arith))
+      -- when all H nodes have come, or too few bytes are left for the next
+      module _ (over : i < H → length bs < 41 + i * m.width + m.width) where
+        short : i < H → length bs < 41 + H * m.width
+        short lt =
+            let more = mul-le (suc i) m.width H m.width (omega arith) (le_refl m.width) in
+            let one = next i in
+            let few = over lt in
+            omega arith
 
-    -- a node that came as the next chunk of what is left
-    module _ {i : ℕ} {rest : List ℕ} (so_far : Passed i (41 + i * m.width) rest) (node later : List ℕ) (split : rest ≡ node ++ later) (fills : length node ≡ m.width) where
-      read : is_some (m.read (take m.width rest)) ≡ is_some (front_node m node)
-      read = ap is_some (sym (chunk_reads m rest node later split fills))
+        whole : i ≡ H → 41 + H * m.width ≤ length bs
+        whole done = subst (λ k. 41 + k * m.width ≤ length bs) done begins.within
 
-      pub passed_chunk : i < H → is_some (front_node m node) ≡ true → Passed (i + 1) (41 + (i + 1) * m.width) later
-      passed_chunk lt e =
-          let place : 41 + i * m.width + m.width ≡ 41 + (i + 1) * m.width = simp (add-mul, one-mul) (omega arith) in
-          subst (λ p. Passed (i + 1) p later) place (subst (λ l. Passed (i + 1) (41 + i * m.width + m.width) l) (chunk_behind m rest node later split fills) (passed_more so_far lt (chunk_fits m rest node later split fills) (read ∙ e)))
+        pub ends_whole : length bs ≡ 41 + H * m.width → first_broken bs (node_rules m bs 41 H) ≡ None
+        ends_whole e =
+            ⊎_elim (λ lt. absurd (let few = short lt in omega arith))
+            (λ ge.
+            let upto = begins.upto in
+            sym (left_none (omega arith)) ∙ rule_kept _ [] (omega arith) (le-leb (length bs) (41 + H * m.width) (omega arith)))
+            (cases_lt i H)
 
-      pub chunk_none : i < H → is_some (front_node m node) ≡ false → first_broken bs (node_rules m bs 41 H) ≡ Some (fault (41 + i * m.width) Path)
-      chunk_none lt e = stops_none so_far lt (chunk_fits m rest node later split fills) (read ∙ e)
-
-    -- when all H nodes were passed, or too few bytes are left for the next
-    module _ {i : ℕ} {rest : List ℕ} (so_far : Passed i (41 + i * m.width) rest) (upto : i ≤ H) (over : i < H → length rest < m.width) where
-      left : length rest + (41 + i * m.width) ≡ length bs
-      left = size so_far
-
-      before : i < H → length bs < 41 + H * m.width
-      before lt =
-          let more = mul-le (i + 1) m.width H m.width (omega arith) (le_refl m.width) in
-          let row : (i + 1) * m.width ≡ i * m.width + m.width = simp (add-mul, one-mul) in
-          let few = over lt in
-          let all = left in
-          omega arith
-
-      at_end : i ≡ H → length rest + (41 + H * m.width) ≡ length bs
-      at_end done = ap (λ k. length rest + (41 + k * m.width)) (sym done) ∙ left
-
-      pub ends_whole : length bs ≡ 41 + H * m.width → first_broken bs (node_rules m bs 41 H) ≡ None
-      ends_whole e =
-          ⊎_elim (λ lt. absurd (let short = before lt in omega arith))
-          (λ ge. let done : i ≡ H = omega arith in ends_empty so_far done (let all = at_end done in omega arith))
-          (cases_lt i H)
-
-      pub ends_other : (length bs ≡ 41 + H * m.width → ⊥) → first_broken bs (node_rules m bs 41 H) ≡ Some (fault (min (41 + H * m.width) (length bs)) Path)
-      ends_other e =
-          ⊎_elim (λ lt.
-          let short = before lt in
-          stops_short so_far lt (over lt) ∙ ap (λ p. Some (fault p Path)) (omega arith))
-          (λ ge.
-          let done : i ≡ H = omega arith in
-          let all = at_end done in
-          let place : 41 + i * m.width ≡ min (41 + H * m.width) (length bs) = ap (λ k. 41 + k * m.width) done ∙ omega arith in
-          ends_surplus so_far done (λ none. e (omega arith)) ∙ ap (λ p. Some (fault p Path)) place)
-          (cases_lt i H)
+        pub ends_other : (length bs ≡ 41 + H * m.width → ⊥) → first_broken bs (node_rules m bs 41 H) ≡ Some (fault (min (41 + H * m.width) (length bs)) Path)
+        ends_other e =
+            ⊎_elim (λ lt.
+            let few = short lt in
+            let wants = over lt in
+            sym (left_more lt) ∙ rule_ends _ (node_rules m bs (41 + i * m.width + m.width) (H - suc i)) wants ∙ ap (λ p. Some (fault p Path)) (omega arith))
+            (λ ge.
+            let upto = begins.upto in
+            let done : i ≡ H = omega arith in
+            let all = whole done in
+            sym (left_none done) ∙ rule_broken _ [] all (lt-leb (length bs) (41 + H * m.width) (omega arith)) ∙ ap (λ p. Some (fault p Path)) (omega arith))
+            (cases_lt i H)
 
 -- the first fault, section by section
 pub fault_is : {N : Type 0} (m : Meaning N) (bs : List ℕ) (k H : ℕ) (a b c d : Option Fault) →

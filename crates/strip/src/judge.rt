@@ -5,7 +5,7 @@ ghost use Rattle.tree.specs.Digests.{sealed_meaning};
 ghost use Rattle.tree.specs.Spans.{dummy_meaning};
 ghost use Rattle.strip.specs.Calls.{Judges, JudgesByKind, AcceptsRoot, CountsJudging};
 
-use crate::check::check;
+use crate::check::leads_to;
 use crate::parse::parse;
 use crate::refusal::Refusal;
 use tree::dummy::Dummy;
@@ -47,7 +47,7 @@ pub fn judge_with<M: Maker>(maker: &mut M, root: &[u8], bytes: &[u8]) -> Result<
     ensures keeps { M.meaning maker.new ≡ M.meaning maker.old }
     ensures counts { CountsJudging (M.meaning maker.old) root.now bytes.now result (M.meter maker.old) (M.meter maker.new) }
 {
-    parse(maker, bytes)?;
+    let strip = parse(maker, bytes)?;
     let width = maker.width();
     if root.len() != width {
         return Err(Refusal::Short(width));
@@ -55,5 +55,5 @@ pub fn judge_with<M: Maker>(maker: &mut M, root: &[u8], bytes: &[u8]) -> Result<
     let Some(node) = front_node(maker, root) else {
         return Ok(false);
     };
-    check(maker, bytes, node)
+    Ok(leads_to(maker, &strip, node))
 }

@@ -80,10 +80,12 @@ fn only_nodes<M: Maker>(maker: &M, bytes: &[u8], height: u32) -> Result<(), Faul
 {
     let width = maker.width();
     let path = &bytes[NODES_PLACE..];
-    for (i, node) in path.chunks_exact(width).take(height as usize).enumerate() {
-        if front_node(maker, node).is_none() {
-            return Err(Section::Path.at(NODES_PLACE + i * width));
-        }
+    let broken = path
+        .chunks_exact(width)
+        .take(height as usize)
+        .position(|node| front_node(maker, node).is_none());
+    if let Some(i) = broken {
+        return Err(Section::Path.at(NODES_PLACE + i * width));
     }
     let end = strip_length(maker, height);
     if bytes.len() == end {

@@ -33,9 +33,6 @@ fn fill<M: Maker>(maker: &M, path: &[u8], cells: &mut [M::Node])
     ensures { cells.new ≡ path_nodes (M.meaning maker.now) path.now ++ drop (length (path_nodes (M.meaning maker.now) path.now)) cells.old }
 {
     for (i, bytes) in path.chunks_exact(maker.width()).enumerate() {
-        let Some(node) = front_node(maker, bytes) else {
-            unreachable()
-        };
-        cells[i] = node;
+        cells[i] = front_node(maker, bytes).unwrap();
     }
 }

@@ -1,14 +1,14 @@
 use Rattle.std.proofs.Common.{◌+◌, ◌*◌, ◌<◌, ◌++◌, length, drop, ap, ◌∙◌, sym, arith, rules}
 use Rattle.tree.specs.Path.{path_nodes}
-use Rattle.strip.proofs.Filling.{chunk_within, chunk_all, chunk_not_none, chunk_filled, chunks_filled}
+use Rattle.strip.proofs.Filling.{chunk_within, chunk_all, chunk_found, chunk_filled, chunks_filled}
 use Rattle.strip.proofs.read.fill.Goals as goal
 
-pub unreachable-requires : goal.unreachable-requires
-unreachable-requires g c =
+pub unwrap-requires : goal.unwrap-requires
+unwrap-requires g c =
     let m = g.M.Maker.meaning c.args.maker.now in
     let held = c.loop-i.invariant in
     let step = c.in-Some.ensures.steps in
-    chunk_not_none m (g.met.M.Maker.lawful c.args.maker.now).at_least c.args.path.now c.args.cells.now held.filled held.all c.in-Some.bytes.now _ step.0.1.0 (step.0.1.1 ∙ held.size) c.in_default.ensures.value
+    rw c.front_node.ensures.value (chunk_found m (g.met.M.Maker.lawful c.args.maker.now).at_least c.args.path.now c.args.cells.now held.filled held.all c.in-Some.bytes.now _ step.0.1.0 (step.0.1.1 ∙ held.size))
 
 pub offset_bounds-cells-i : goal.offset_bounds-cells-i
 offset_bounds-cells-i g c =
@@ -28,7 +28,7 @@ loop-i-preserved g c =
     let fills = step.0.1.1 ∙ held.size in
     let within = chunk_within m least c.args.path.now c.args.cells.now held.filled held.all c.in-Some.bytes.now _ step.0.1.0 fills in
     let room : c.loop-i.i-iterator.count < length c.loop-i.cells = omega (arith, c.requires.room, c.requires.nodes) in
-    let filled = chunk_filled m least c.args.path.now c.args.cells.now held.filled held.all c.in-Some.bytes.now _ step.0.1.0 fills room c.in-Some-front_node.node c.in-Some-front_node.ensures.value in
+    let filled = chunk_filled m least c.args.path.now c.args.cells.now held.filled held.all c.in-Some.bytes.now _ step.0.1.0 fills room c.unwrap.result (sym c.unwrap.ensures ∙ c.front_node.ensures.value) in
     record {
       can_next = search rules;
       is_finite = search rules;
