@@ -13,9 +13,8 @@ use Rattle.tree.specs.Spans.{dummy_meaning}
 use Rattle.tree.specs.Sealing.{sealed_lawful}
 use Rattle.tree.specs.Spanning.{dummy_lawful}
 use Rattle.strip.specs.declared.refusal.Refusal.{Refusal}
-use Rattle.strip.specs.declared.refusal.Refusal.TheVariants.{Short}
 use Rattle.strip.specs.Format.{strip_bytes, height_in, path_in, fault_in}
-use Rattle.strip.specs.Refusals.{or_else}
+use Rattle.strip.specs.Refusals.{or_else, short}
 use Rattle.strip.specs.declared.parse.Strip.{Strip}
 use Rattle.strip.specs.Sections.{Parsed}
 use Rattle.strip.specs.Parts.{OnlyNodes, strip_leads}
@@ -88,7 +87,7 @@ module _ {N : Type 0} (m : Meaning N) (lawful : Lawful m) (bs : List ℕ) where
       ap Ok (judged.2.1 found)
   accepts_root top (Err r) judged tokens H n legal below long is-strip is-root =
       let size = ap length is-root ∙ lawful.fills (root_of m tokens H) in
-      let fits = cond-true (eqb (length top) m.width) None (Some (Short m.width)) (eq-eqb _ _ size) in
+      let fits = cond-true (eqb (length top) m.width) None (Some (short m.width)) (eq-eqb _ _ size) in
       let none = sym (ap₂ or_else (full_faultless tokens H n legal below long is-strip) fits) ∙ judged in
       absurd (cc)
 

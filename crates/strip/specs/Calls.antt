@@ -8,10 +8,10 @@ use Rattle.tree.specs.Spans.{dummy_meaning}
 use Rattle.tree.specs.Digests.{sealed_meaning}
 use Rattle.strip.specs.declared.parse.Strip.{Strip}
 use Rattle.strip.specs.declared.refusal.Refusal.{Refusal}
-use Rattle.strip.specs.declared.refusal.Refusal.TheVariants.{Height, Short, Number}
+use Rattle.strip.specs.declared.refusal.Refusal.TheVariants.{Height, Number}
 use Rattle.strip.specs.Format.{strip_bytes, height_in, number_in, token_in, path_in, fault_in}
 use Rattle.tree.specs.Refusals.{first_refusal}
-use Rattle.strip.specs.Refusals.{or_else}
+use Rattle.strip.specs.Refusals.{or_else, short}
 
 -- how long a strip is
 abbrev pub strip_length : {N : Type 0} → Meaning N → ℕ → ℕ
@@ -35,9 +35,9 @@ abbrev pub write_checks : {N : Type 0} → Meaning N → ℕ → ℕ → ℕ →
 write_checks m H n cells secret out =
     (legal_height H, Height H)
     ∷ (nat_lt n (2 ^ H), Number n)
-    ∷ (nat_le H cells, Short H)
-    ∷ (nat_le 32 secret, Short 32)
-    ∷ (nat_le (strip_length m H) out, Short (strip_length m H))
+    ∷ (nat_le H cells, short H)
+    ∷ (nat_le 32 secret, short 32)
+    ∷ (nat_le (strip_length m H) out, short (strip_length m H))
     ∷ []
 
 abbrev pub write_refusal : {N : Type 0} → Meaning N → ℕ → ℕ → ℕ → ℕ → ℕ → Option Refusal
@@ -66,7 +66,7 @@ Writes m H n siblings secret before later (Err r) =
 -- Which refusal reading comes to, if any: the first fault of the bytes, then too few cells.
 abbrev pub read_refusal : {N : Type 0} → Meaning N → List ℕ → List N → Option Refusal
 read_refusal m bs cells =
-    or_else (fault_in m bs) (first_refusal ((nat_le (height_in bs) (length cells), Short (height_in bs)) ∷ []))
+    or_else (fault_in m bs) (first_refusal ((nat_le (height_in bs) (length cells), short (height_in bs)) ∷ []))
 
 -- Reading: the parts of the bytes, and the path's nodes in the first cells, the others as they were.
 abbrev pub ReadsStrip : {N : Type 0} → Meaning N → List ℕ → List N → List N → Result Strip Refusal → Type 0
@@ -105,7 +105,7 @@ abbrev pub Judges : {N : Type 0} → Meaning N → List ℕ → List ℕ → Res
 Judges m top bs (Ok verdict) =
     (fault_in m bs ≡ None) × (length top ≡ m.width) × Decides verdict (m.read top ≡ Some (leads m bs))
 Judges m top bs (Err r) =
-    or_else (fault_in m bs) (first_refusal (((length top == m.width), Short m.width) ∷ [])) ≡ Some r
+    or_else (fault_in m bs) (first_refusal (((length top == m.width), short m.width) ∷ [])) ≡ Some r
 
 -- What judging makes: one leaf and H joins, where the strip has no fault and the root is a node; else nothing.
 abbrev pub CountsJudging : {N : Type 0} → Meaning N → List ℕ → List ℕ → Result Bool Refusal → Meter → Meter → Type 0

@@ -1,11 +1,15 @@
 -- What each refusal is called, and which of several comes.
 use Rattle.std.specs.Prelude.{ℕ, List, [], ◌∷◌, ◌++◌, Some, None, codes, decimal, Option}
-use Rattle.tree.specs.Refusals.{spaced}
+use Rattle.tree.specs.Refusals.{short_numbered, spaced}
 use Rattle.strip.specs.declared.refusal.Section.{Section}
 use Rattle.strip.specs.declared.refusal.Section.TheVariants.{Head, Token, Path}
 use Rattle.strip.specs.declared.refusal.Fault.{Fault}
 use Rattle.strip.specs.declared.refusal.Refusal.{Refusal}
 use Rattle.strip.specs.declared.refusal.Refusal.TheVariants.{Height, Short, Number, NoStrip}
+
+-- a slice that should have had so many elements
+abbrev pub short : ℕ → Refusal
+short needed = Short (record { needed = needed })
 
 abbrev pub section_number : Section → ℕ
 section_number Head = 1
@@ -15,7 +19,7 @@ section_number Path = 3
 -- the number of a refusal, and the values that it returns
 abbrev pub numbered : Refusal → ℕ × List ℕ
 numbered (Height h) = (1, h ∷ [])
-numbered (Short needed) = (7, needed ∷ [])
+numbered (Short e) = short_numbered e
 numbered (Number n) = (10, n ∷ [])
 numbered (NoStrip f) = (11, f.place ∷ section_number f.section ∷ [])
 

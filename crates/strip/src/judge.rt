@@ -9,6 +9,7 @@ use crate::check::leads_to;
 use crate::parse::parse;
 use crate::refusal::Refusal;
 use tree::dummy::Dummy;
+use tree::fault::TooShort;
 use tree::fold::front_node;
 use tree::kind::Kind;
 use tree::maker::Maker;
@@ -48,9 +49,9 @@ pub fn judge_with<M: Maker>(maker: &mut M, root: &[u8], bytes: &[u8]) -> Result<
     ensures counts { CountsJudging (M.meaning maker.old) root.now bytes.now result (M.meter maker.old) (M.meter maker.new) }
 {
     let strip = parse(maker, bytes)?;
-    let width = maker.width();
-    if root.len() != width {
-        return Err(Refusal::Short(width));
+    let needed = maker.width();
+    if root.len() != needed {
+        return Err(TooShort { needed }.into());
     }
     let Some(node) = front_node(maker, root) else {
         return Ok(false);

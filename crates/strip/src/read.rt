@@ -4,6 +4,7 @@ ghost use Rattle.strip.specs.Calls.{ReadsStrip, SpellsBack};
 
 use crate::parse::{Strip, parse};
 use crate::refusal::Refusal;
+use tree::fault::TooShort;
 use tree::fold::front_node;
 use tree::maker::Maker;
 
@@ -19,7 +20,7 @@ pub fn read<'a, M: Maker>(
     let strip = parse(maker, bytes)?;
     let height = strip.height as usize;
     if cells.len() < height {
-        return Err(Refusal::Short(height));
+        return Err(TooShort { needed: height }.into());
     }
     fill(maker, strip.path, cells);
     Ok(strip)

@@ -1,14 +1,15 @@
 ghost use Rattle.std.specs.Prelude.{◌≡◌, Some};
 ghost use Rattle.strip.specs.Refusals.{section_number, numbered, fault_text, refusal_line};
-ghost use Rattle.strip.specs.declared.refusal.Refusal.TheVariants.{NoStrip};
+ghost use Rattle.strip.specs.declared.refusal.Refusal.TheVariants.{Short, NoStrip};
 
 use std::error::Error;
 use std::fmt;
+use tree::fault::TooShort;
 
 /// The sections of a strip.
 #[derive(Clone, Copy, Debug, PartialEq, Eq)]
 pub enum Section {
-    Head,
+    Head = 1,
     Token,
     Path,
 }
@@ -25,8 +26,8 @@ pub struct Fault {
 pub enum Refusal {
     /// No tree has this height.
     Height(u32),
-    /// A slice is too short; it should have had so many elements.
-    Short(usize),
+    /// A slice is too short.
+    Short(TooShort),
     /// The tree has no leaf of this number.
     Number(u32),
     /// The bytes are no strip.
@@ -50,26 +51,31 @@ impl Section {
     pub fn number(self) -> u8
         ensures { result ≡ section_number self }
     {
-        match self {
-            Section::Head => 1,
-            Section::Token => 2,
-            Section::Path => 3,
-        }
+        self as u8
     }
 }
 
 impl Refusal {
-    /// The number by which a refusal is known outside. It is one fact of a refusal, not the refusal in
-    /// another form, so it is no conversion.
+    /// The number by which a refusal is known outside. It is one fact of a refusal, not the refusal in another
+    /// form, so this is no conversion. A height has the number that it has in `tree`, whose own refusal would be no
+    /// plainer here: it can also be one of subtrees.
     pub fn number(self) -> u8
         ensures { result ≡ (numbered self).0 }
     {
         match self {
             Refusal::Height(_) => 1,
-            Refusal::Short(_) => 7,
+            Refusal::Short(short) => short.number(),
             Refusal::Number(_) => 10,
             Refusal::NoStrip(_) => 11,
         }
+    }
+}
+
+impl From<TooShort> for Refusal {
+    ghost from_gives = { λ short r. r ≡ Short short };
+
+    fn from(short: TooShort) -> Refusal {
+        Refusal::Short(short)
     }
 }
 
@@ -99,7 +105,7 @@ impl fmt::Display for Refusal {
         let number = self.number();
         match self {
             Refusal::Height(height) => write!(f, "refused {number} {height}"),
-            Refusal::Short(needed) => write!(f, "refused {number} {needed}"),
+            Refusal::Short(short) => write!(f, "{short}"),
             Refusal::Number(leaf) => write!(f, "refused {number} {leaf}"),
             Refusal::NoStrip(fault) => write!(f, "refused {number} {fault}"),
         }

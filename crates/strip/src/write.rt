@@ -4,6 +4,7 @@ ghost use Rattle.strip.specs.Calls.{strip_length, write_refusal, Writes, Refuses
 
 use crate::layout::{HEAD_COUNT, TOKEN_COUNT, TOKEN_LENGTH, strip_length};
 use crate::refusal::Refusal;
+use tree::fault::TooShort;
 use tree::height::{has_leaf, is_height};
 use tree::maker::Maker;
 
@@ -52,14 +53,17 @@ fn room<M: Maker>(
     }
     let count = height as usize;
     if nodes < count {
-        return Err(Refusal::Short(count));
+        return Err(TooShort { needed: count }.into());
     }
     if token < TOKEN_LENGTH {
-        return Err(Refusal::Short(TOKEN_LENGTH));
+        return Err(TooShort {
+            needed: TOKEN_LENGTH,
+        }
+        .into());
     }
     let needed = strip_length(maker, height);
     if out < needed {
-        return Err(Refusal::Short(needed));
+        return Err(TooShort { needed }.into());
     }
     Ok(needed)
 }

@@ -9,9 +9,9 @@ ghost use Rattle.strip_c.specs.Foreign.{AcceptsSealed, ChecksSealed, length_or_0
 
 use strip::judge::judge_with;
 use strip::layout::strip_length;
-use strip::refusal::Refusal;
 use tree::dummy::Dummy;
-use tree::geometry::size;
+use tree::fault::TooShort;
+use tree::geometry::{Heights, size};
 use tree::height::is_height;
 use tree::kind::Kind;
 use tree::sealed::Sealed;
@@ -28,7 +28,7 @@ const NO: u32 = 100;
 pub extern "C" fn strips_table_size(height: u32, subtree: u32) -> u64
     ensures { result ≡ size_or_0 height subtree }
 {
-    size(height, subtree).map_or(0, |cells| cells as u64)
+    size(Heights { height, subtree }).map_or(0, |cells| cells as u64)
 }
 
 /// How many bytes a strip has. The C interface fixes the 0 for a kind or a height that no strip has.
@@ -61,9 +61,9 @@ pub extern "C" fn strips_check(strip: &[u8], root: &[u8]) -> u32
     ensures answer { ChecksSealed strip.now root.now result }
     ensures full_tree { AcceptsSealed strip.now root.now result }
 {
-    let width = Kind::Sealed.width();
-    if root.len() != width {
-        return u32::from(Refusal::Short(width).number());
+    let needed = Kind::Sealed.width();
+    if root.len() != needed {
+        return u32::from(TooShort { needed }.number());
     }
     match judge_with(&mut Sealed::new(), root, strip) {
         Ok(true) => YES,

@@ -4,9 +4,8 @@ use Rattle.std.proofs.lemmas.Bool.{cond-true, le-leb}
 use Rattle.tree.specs.Path.{path_nodes}
 use Rattle.strip.specs.Format.{strip_bytes, height_in}
 use Rattle.tree.specs.Refusals.{first_refusal}
-use Rattle.strip.specs.Refusals.{or_else}
 use Rattle.strip.specs.Calls.{nodes_in}
-use Rattle.strip.specs.declared.refusal.Refusal.TheVariants.{Short}
+use Rattle.strip.specs.Refusals.{or_else, short}
 use Rattle.strip.proofs.Faultless.{faultless}
 use Rattle.strip.proofs.Leading.{path_chunks, path_nodes_in}
 use Rattle.strip.proofs.Spelling.{strip_spelled}
@@ -36,8 +35,8 @@ returns g c =
     let front = ap₂ take p.1 filled ∙ take_at (nodes_in m bs) (drop (height_in bs) c.args.cells.now) (height_in bs) whole.nodes in
     record {
       answer = (
-        ap (λ o. or_else o (first_refusal ((leb (height_in bs) (length c.args.cells.now), Short (height_in bs)) ∷ []))) p.0
-            ∙ cond-true (leb (height_in bs) (length c.args.cells.now)) None (Some (Short (height_in bs))) (le-leb _ _ room),
+        ap (λ o. or_else o (first_refusal ((leb (height_in bs) (length c.args.cells.now), short (height_in bs)) ∷ []))) p.0
+            ∙ cond-true (leb (height_in bs) (length c.args.cells.now)) None (Some (short (height_in bs))) (le-leb _ _ room),
         p.1,
         p.2,
         p.3,
