@@ -10,7 +10,7 @@ pub(crate) const HEAD_COUNT: u8 = 6;
 pub(crate) const TOKEN_COUNT: u8 = 32;
 
 /// How many bytes a token has.
-pub(crate) const TOKEN_LENGTH: usize = 32;
+pub(crate) const TOKEN_LENGTH: usize = TOKEN_COUNT as usize;
 
 /// Where the byte of the kind stands.
 pub(crate) const KIND_PLACE: usize = 1;
@@ -25,12 +25,13 @@ pub(crate) const NUMBER_PLACE: usize = 3;
 pub(crate) const TOKEN_PLACE: usize = 7;
 
 /// Where the path's section begins, with its count byte.
-pub(crate) const PATH_PLACE: usize = 40;
+pub(crate) const PATH_PLACE: usize = TOKEN_PLACE + 1 + TOKEN_LENGTH;
 
 /// Where the nodes of the path begin.
-pub(crate) const NODES_PLACE: usize = 41;
+pub(crate) const NODES_PLACE: usize = PATH_PLACE + 1;
 
-/// How many bytes a strip of a maker has in a tree of this height.
+/// How many bytes a strip of a maker has in a tree of this height. It takes a maker, whose width is at most 32, and no
+/// width, of which that would have to be asked.
 pub fn strip_length<M: Maker>(maker: &M, height: u32) -> usize
     ensures { result ≡ strip_length (M.meaning maker.now) height }
 {

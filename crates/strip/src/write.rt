@@ -34,7 +34,8 @@ pub fn write<M: Maker>(
     Ok(needed)
 }
 
-/// How long the strip is, or why it can't be written.
+/// How long the strip is, or why it can't be written. All checks stand here, in their order, and look at lengths
+/// alone: taken where the slices are cut they would be no plainer, and `write` twice as long.
 fn room<M: Maker>(
     maker: &M,
     height: u32,
@@ -68,8 +69,8 @@ fn room<M: Maker>(
     Ok(needed)
 }
 
-/// Puts pieces into `out` one after another; the next goes to `place`. The library's writers answer an error
-/// for want of room, which is ruled out here.
+/// Puts pieces into `out` one after another; the next goes to `place`. A writer of the library would be no plainer:
+/// it would answer an error for want of room at each piece, and there is room for all.
 #[derive(Drop)]
 struct Writer<'a> {
     out: &'a mut [u8],

@@ -2,7 +2,8 @@ ghost use Rattle.std.specs.Prelude.{◌≡◌, ◌+◌, ◌-◌, ◌<◌, ◌≤
 
 use growth::stack::Stack;
 
-/// Puts a node on the stack of the first `len` cells of a slice; answers how many there are then.
+/// Puts a node on the stack of the first `len` cells of a slice; answers how many there are then. The length stands
+/// beside the cells, since the table is lent for a call and the treehash keeps numbers alone.
 pub(crate) fn push_on<N: Copy>(cells: &mut [N], len: usize, node: N) -> usize
     requires { len < length cells.old }
     ensures len { result ≡ len + 1 }

@@ -34,7 +34,9 @@ impl SeedSource {
     pub fn reseed(&mut self, seed: &[u8]) -> Result<(), TooShort>
         ensures { Reseeds self.old.seed seed.now self.new.seed result }
     {
-        let front = seed.first_chunk::<SEED_LENGTH>().ok_or(TooShort { needed: SEED_LENGTH })?;
+        let front = seed.first_chunk::<SEED_LENGTH>().ok_or(TooShort {
+            needed: SEED_LENGTH,
+        })?;
         self.seed = *front;
         Ok(())
     }
