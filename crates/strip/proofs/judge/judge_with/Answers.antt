@@ -17,7 +17,7 @@ leads_to-requires g c =
 pub returns-clause-answer : goal.returns-clause-answer
 returns-clause-answer g c =
     let maker = c.args.maker.now in
-    let fits : length c.args.root.now ≡ (g.M.Maker.meaning maker).width = omega arith in
+    let fits : length c.args.root.now ≡ (g.M.Maker.meaning maker).width = search rules in
     let leads = parsed_leads (g.M.Maker.meaning maker) (g.met.M.Maker.lawful maker) c.args.bytes.now c.in_ok-strip.strip c.in_ok-strip.ensures in
     rw (← leads) (grind (arith, common_steps))
 
