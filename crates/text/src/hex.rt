@@ -1,36 +1,21 @@
-ghost use Rattle.std.specs.Prelude.{◌≡◌, Some, IfOk, string_bytes};
-ghost use Rattle.strip.specs.Hex.{hex_text};
+ghost use Rattle.std.specs.Prelude.{◌≡◌, IfOk, string_bytes};
+ghost use Rattle.hex.specs.Hex.{encode_lower};
 ghost use Rattle.text.specs.declared.hex.NoBytes.TheVariants.{NoMemory};
 ghost use Rattle.text.specs.Hex.{Decodes};
 
+use hex::encode;
 use std::alloc::{AllocError, AllocFailed, Global};
-use std::fmt;
 use strip::hex::digit;
 use thiserror::Error;
 use tree::maker::Maker;
 
-/// Bytes, to be shown in lower-case hex, two digits a byte.
-#[derive(Clone, Copy)]
-pub struct Hex<'a>(pub &'a [u8]);
-
-impl fmt::Display for Hex<'_> {
-    ghost output = { λ hex. Some (hex_text hex.0.now) };
-
-    fn fmt<W: fmt::Write>(&self, f: &mut fmt::Formatter<W>) -> fmt::Result {
-        for &byte in self.0 {
-            write!(f, "{byte:02x}")?;
-        }
-        Ok(())
-    }
-}
-
 /// The bytes of a node in lower-case hex.
 pub fn node_hex<M: Maker>(heap: Global, maker: &M, node: M::Node) -> Result<String, AllocError>
-    ensures { IfOk result (λ s. string_bytes s ≡ hex_text ((M.meaning maker.now).put node)) }
+    ensures { IfOk result (λ s. string_bytes s ≡ encode_lower ((M.meaning maker.now).put node)) }
 {
     let mut bytes = vec![in heap; 0; maker.width()]?;
     maker.put(node, &mut bytes).unwrap();
-    format!(in heap; "{}", Hex(&bytes))
+    encode(heap, &bytes[..])
 }
 
 /// Why a text gives no bytes.

@@ -2,11 +2,12 @@
 
 #![tactic(auto)]
 
-ghost use Rattle.std.specs.Prelude.{◌≡◌, ◌<◌, Decides};
+ghost use Rattle.std.specs.Prelude.{◌≡◌, Decides};
+ghost use Rattle.hex.specs.Hex.{encode_lower};
 ghost use Rattle.hashing.specs.Sha256.{sha256};
-ghost use Rattle.vectors.specs.Hex.{hex_digit, hex_pair, hex_text};
 
 use hashing::digest;
+use hex::encode_to_slice;
 use std::io;
 
 /// A message that fills one block.
@@ -17,34 +18,12 @@ const ONE_BLOCK: [u8; 64] = [
     0xf3, 0x35, 0x39, 0x03, 0x94, 0xc3, 0x7f, 0xa1, 0xa9, 0xf9, 0xbe, 0x83, 0x6a, 0xc2, 0x85, 0x09,
 ];
 
-/// The digit of a number below 16. It is written here, and so are the pair and the text, since std writes digits as
-/// `char`s or to a formatter, and an array of bytes is compared without memory.
-fn hex_digit(n: u8) -> u8
-    requires { n < 16 }
-    ensures { result ≡ hex_digit n }
-{
-    if n < 10 { b'0' + n } else { b'a' + (n - 10) }
-}
-
-fn hex_pair(byte: u8) -> [u8; 2]
-    ensures { result ≡ hex_pair byte }
-{
-    [hex_digit(byte / 16), hex_digit(byte % 16)]
-}
-
-fn hex_text(bytes: [u8; 32]) -> [u8; 64]
-    ensures { result ≡ hex_text bytes }
-{
-    let mut text = [0; 64];
-    text.copy_from_slice(bytes.map(hex_pair).as_flattened());
-    text
-}
-
 /// Whether `expected` is the digest of `message` in hexadecimal.
 fn has_digest(message: &[u8], expected: &str) -> bool
-    ensures { Decides result (hex_text (sha256 message.now) ≡ expected.now) }
+    ensures { Decides result (encode_lower (sha256 message.now) ≡ expected.now) }
 {
-    let text = hex_text(digest(message));
+    let mut text = [0; 64];
+    encode_to_slice(digest(message), &mut text).unwrap();
     text.as_slice() == expected.as_bytes()
 }
 

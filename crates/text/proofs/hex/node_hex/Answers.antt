@@ -1,7 +1,7 @@
 use Rattle.std.proofs.Common.{rules, ◌≡◌, length, sym, ap, ◌∙◌}
 use Rattle.std.proofs.lemmas.List.{take_at}
 use Rattle.std.proofs.lemmas.Result.{IfOk-weaker}
-use Rattle.strip.specs.Hex.{hex_text}
+use Rattle.hex.specs.Hex.{encode_lower}
 use Rattle.strip.proofs.Appending.{puts_whole}
 use Rattle.text.proofs.hex.node_hex.Goals as goal
 
@@ -14,4 +14,4 @@ returns g c =
     let fills = (g.met.M.Maker.lawful c.args.maker.now).fills c.args.node in
     let shown : c.deref.result.now ≡ m.put c.args.node =
     c.deref.ensures.value ∙ take_at c.put.new.out _ _ (ap length whole ∙ fills ∙ sym size) ∙ whole in
-    IfOk-weaker c.format.result _ _ (λ s e. e ∙ ap hex_text shown) c.format.ensures.ok
+    IfOk-weaker c.encode.result _ _ (λ s e. e ∙ ap encode_lower shown) c.encode.ensures
