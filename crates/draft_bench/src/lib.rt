@@ -97,7 +97,8 @@ fn message<const N: usize>(front: [u8; 32]) -> [u8; N]
     row
 }
 
-/// Writes a digest to the front of `out`, if there is room: a `bool`, as the exported calls here answer.
+/// Writes a digest to the front of `out`, if there is room: a `bool` for a slice that may be short, as the C interface
+/// has it.
 /// `hash_bench` has the same: a crate for both would be a library more, for four lines.
 fn write_front(digest: [u8; 32], out: &mut [u8]) -> bool
     ensures short { length out.old < 32 → (result ≡ false) × (out.new ≡ out.old) }

@@ -1,7 +1,5 @@
 use std::alloc::Global;
-
-/// How many bytes a token has.
-const TOKEN: usize = 32;
+use tree::source::TOKEN_LENGTH;
 
 /// The mark of a token that is present.
 const PRESENT: u8 = 1;
@@ -14,7 +12,7 @@ pub(crate) fn entries(heap: Global, count: u8, torn: Option<u8>) -> anyhow::Resu
     let mut bytes = Vec::new(heap);
     for number in 0..count {
         bytes.push(if torn == Some(number) { TORN } else { PRESENT })?;
-        bytes.extend_from_slice(&[number; TOKEN])?;
+        bytes.extend_from_slice(&[number; TOKEN_LENGTH])?;
     }
     Ok(bytes)
 }

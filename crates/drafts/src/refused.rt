@@ -9,7 +9,7 @@ use tree::dummy::Dummy;
 use tree::geometry::Heights;
 use tree::list::ListSource;
 use tree::sealed::Sealed;
-use tree::source::Source;
+use tree::span::Span;
 
 /// The heights of the drafts here.
 const HEIGHTS: Heights = Heights {
@@ -63,8 +63,8 @@ pub(crate) fn tell_early_turns(rt: &HostRuntime) -> anyhow::Result<()> {
     Ok(())
 }
 
-fn tell_early_turn<M: Tried, S: Source + Drop>(
-    trial: &mut Trial<M, S>,
+fn tell_early_turn(
+    trial: &mut Trial<Dummy, ListSource>,
     mut draft: Draft,
     units: u64,
 ) -> anyhow::Result<()> {
@@ -107,10 +107,10 @@ pub(crate) fn tell_short_table(rt: &HostRuntime) -> anyhow::Result<()> {
     trial.tell_end("long table", draft, told)
 }
 
-fn tell_two_tables<M: Tried, S: Source + Drop>(
-    trial: &mut Trial<M, S>,
+fn tell_two_tables(
+    trial: &mut Trial<Dummy, ListSource>,
     draft: &mut Draft,
-    short: Vec<M::Node>,
+    short: Vec<Span>,
 ) -> anyhow::Result<()> {
     trial.tell_step("long table", draft, 7)?;
     let long = mem::replace(&mut trial.table, short);
@@ -148,8 +148,8 @@ fn tell_lack<'a>(
     trial.tell_end(name, draft, told)
 }
 
-fn tell_steps<M: Tried, S: Source + Drop>(
-    trial: &mut Trial<M, S>,
+fn tell_steps(
+    trial: &mut Trial<Dummy, ListSource>,
     name: &str,
     draft: &mut Draft,
 ) -> anyhow::Result<()> {

@@ -66,7 +66,8 @@ impl State {
     }
 
     /// A run of rounds, with their constants and words.
-    /// Written out: with a loop or a fold over the two, a hash takes a quarter longer.
+    /// Written out: with a loop or a fold over the two, a hash takes a quarter longer, and the bar of 1.1 times the
+    /// scalar Rust in bench/ is missed.
     fn rounds(self, constants: &[u32; RUN], words: &[u32; RUN]) -> State
         ensures { (m : List ℕ) (start : State) (t : ℕ) → HasConstants t constants.now → Stage m start t self words.now → result ≡ rounds m (t + 16) start }
     {
@@ -121,7 +122,8 @@ impl State {
     }
 
     /// The hash value after the block that is the padding of a message of one block.
-    /// Not `compress` of that block: with the schedule in a table, a hash of 64 bytes takes a fifth less time.
+    /// Not `compress` of that block: without the schedule in a table, a hash of 64 bytes takes a quarter longer, and the
+    /// bar of 1.1 times the scalar Rust in bench/ is missed.
     pub fn absorb_padding(self) -> State
         ensures { result ≡ compressed self (padding 64) }
     {

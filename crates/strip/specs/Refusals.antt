@@ -1,6 +1,6 @@
 -- What each refusal is called, and which of several comes.
 use Rattle.std.specs.Prelude.{ℕ, List, [], ◌∷◌, ◌++◌, Some, None, codes, decimal, Option}
-use Rattle.tree.specs.Refusals.{short_numbered, spaced}
+use Rattle.tree.specs.Refusals.{short_numbered, refused_text}
 use Rattle.strip.specs.declared.refusal.Section.{Section}
 use Rattle.strip.specs.declared.refusal.Section.TheVariants.{Head, Token, Path}
 use Rattle.strip.specs.declared.refusal.Fault.{Fault}
@@ -30,7 +30,7 @@ or_else (Some f) o = Some (NoStrip f)
 
 -- the word, the refusal's number and its values
 abbrev pub refusal_line : Refusal → List ℕ
-refusal_line r = codes "refused" ++ spaced ((numbered r).0 ∷ (numbered r).1)
+refusal_line r = refused_text (numbered r)
 
 -- a fault in print: its place and its section
 abbrev pub fault_text : Fault → List ℕ

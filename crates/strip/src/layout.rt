@@ -2,15 +2,13 @@ ghost use Rattle.std.specs.Prelude.{◌≡◌};
 ghost use Rattle.strip.specs.Calls.{strip_length};
 
 use tree::maker::Maker;
+pub(crate) use tree::source::TOKEN_LENGTH;
 
 /// The count byte of the head.
 pub(crate) const HEAD_COUNT: u8 = 6;
 
 /// The count byte of the token.
-pub(crate) const TOKEN_COUNT: u8 = 32;
-
-/// How many bytes a token has.
-pub(crate) const TOKEN_LENGTH: usize = TOKEN_COUNT as usize;
+pub(crate) const TOKEN_COUNT: u8 = TOKEN_LENGTH as u8;
 
 /// Where the byte of the kind stands.
 pub(crate) const KIND_PLACE: usize = 1;

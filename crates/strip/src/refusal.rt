@@ -47,7 +47,7 @@ impl Section {
         }
     }
 
-    /// The sections count from 1. The number stands for a section in answers alone.
+    /// The sections count from 1. It is a method, as that of each refusal; a `From` would be no plainer.
     pub fn number(self) -> u8
         ensures { result ≡ section_number self }
     {

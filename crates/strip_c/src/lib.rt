@@ -31,7 +31,8 @@ pub extern "C" fn strips_table_size(height: u32, subtree: u32) -> u64
     size(Heights { height, subtree }).map_or(0, |cells| cells as u64)
 }
 
-/// How many bytes a strip has. The C interface fixes the 0 for a kind or a height that no strip has.
+/// How many bytes a strip has. The C interface fixes the 0 for a kind or a height that no strip has. A length is asked
+/// of a maker, whose width is bounded, so each kind has an arm.
 #[unsafe(no_mangle)]
 pub extern "C" fn strips_strip_length(kind: u32, height: u32) -> u64
     ensures { result ≡ length_or_0 kind height }

@@ -1,7 +1,8 @@
 -- What reading a ticket answers, said of the set of all tickets.
-use Rattle.std.specs.Prelude.{◌≡◌, ℕ, ◌+◌, ◌<◌, ◌≤◌, cond, List, [], ◌∷◌, ◌++◌, length, take, drop, replicate, codes, Ok, Err, Result, ◌==◌, nat_lt}
-use Rattle.tree.specs.Refusals.{short_numbered, spaced}
+use Rattle.std.specs.Prelude.{◌≡◌, ℕ, ◌+◌, ◌<◌, ◌≤◌, cond, List, [], ◌∷◌, ◌++◌, length, take, drop, replicate, codes, decimal, Ok, Err, Result, ◌==◌, nat_lt}
+use Rattle.tree.specs.Refusals.{short_numbered, refused_text}
 use Rattle.ticket.specs.declared.job.Job.{Job}
+use Rattle.ticket.specs.declared.job.Spot.{Spot}
 use Rattle.ticket.specs.declared.job.Refusal.{Refusal}
 use Rattle.ticket.specs.declared.job.Refusal.TheVariants.{Short, NoTicket}
 use Rattle.ticket.specs.declared.reader.Wrong.{Wrong}
@@ -66,6 +67,10 @@ abbrev pub numbered : Refusal → ℕ × List ℕ
 numbered (Short short) = short_numbered short
 numbered (NoTicket spot) = (15, spot.line ∷ spot.column ∷ [])
 
+-- a place in print
+abbrev pub spot_text : Spot → List ℕ
+spot_text spot = decimal spot.line ++ codes " " ++ decimal spot.column
+
 -- a refusal in print: its number and its values
 abbrev pub refusal_text : Refusal → List ℕ
-refusal_text r = codes "refused" ++ spaced ((numbered r).0 ∷ (numbered r).1)
+refusal_text r = refused_text (numbered r)

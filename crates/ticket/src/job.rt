@@ -1,5 +1,5 @@
 ghost use Rattle.std.specs.Prelude.{◌≡◌, Some};
-ghost use Rattle.ticket.specs.Reading.{numbered, refusal_text};
+ghost use Rattle.ticket.specs.Reading.{numbered, spot_text, refusal_text};
 ghost use Rattle.ticket.specs.declared.job.Refusal.TheVariants.{Short};
 
 use std::error::Error;
@@ -45,6 +45,14 @@ impl Refusal {
     }
 }
 
+impl fmt::Display for Spot {
+    ghost output = { λ spot. Some (spot_text spot) };
+
+    fn fmt<W: fmt::Write>(&self, f: &mut fmt::Formatter<W>) -> fmt::Result {
+        write!(f, "{} {}", self.line, self.column)
+    }
+}
+
 // Printed as the programs answer it: the refusal's number and its values.
 impl fmt::Display for Refusal {
     ghost output = { λ refusal. Some (refusal_text refusal) };
@@ -53,9 +61,7 @@ impl fmt::Display for Refusal {
         let number = self.number();
         match self {
             Refusal::Short(short) => write!(f, "{short}"),
-            Refusal::NoTicket(Spot { line, column }) => {
-                write!(f, "refused {number} {line} {column}")
-            }
+            Refusal::NoTicket(spot) => write!(f, "refused {number} {spot}"),
         }
     }
 }

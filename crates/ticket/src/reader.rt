@@ -130,7 +130,8 @@ fn named(first: u8) -> Option<Kind>
     }
 }
 
-/// The name of a maker and the line's end, as bytes, so that `literal` reads them as one word.
+/// The name of a maker and the line's end, as bytes: one word, so that a kind that is refused is left unread. Put
+/// together from what `Kind` prints, it would be no plainer.
 fn kind_line(kind: Kind) -> &'static [u8]
     ensures { result.now ≡ kind_line kind }
 {

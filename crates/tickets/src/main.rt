@@ -10,7 +10,7 @@ use ticket::job::Job;
 use ticket::ticket::read;
 use tree::geometry::{Heights, size};
 use tree::seed::SeedSource;
-use tree::source::Source;
+use tree::source::{Source, TOKEN_LENGTH};
 
 /// The bits that are inverted in each byte, one at a time.
 const BITS: [u8; 2] = [1, 64];
@@ -59,7 +59,7 @@ fn tell<D: Display + Copy>(rt: &HostRuntime, what: D, text: &[u8]) -> anyhow::Re
 
 /// The first four bytes of the first token, as a number.
 fn first_token(source: &mut SeedSource) -> u32 {
-    let mut token = [0; 32];
+    let mut token = [0; TOKEN_LENGTH];
     source.token(0, &mut token).unwrap();
     let [a, b, c, d, ..] = token;
     u32::from_be_bytes([a, b, c, d])

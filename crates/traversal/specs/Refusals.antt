@@ -1,6 +1,6 @@
 -- What each refusal of a traversal is called.
 use Rattle.std.specs.Prelude.{ℕ, List, [], ◌∷◌, ◌++◌, map, codes, decimal}
-use Rattle.tree.specs.Refusals.{cause_text, numbered as tree_numbered}
+use Rattle.tree.specs.Refusals.{cause_text, missing_text, numbered as tree_numbered}
 use Rattle.tree.specs.declared.fault.Cause.{Cause}
 use Rattle.tree.specs.declared.fault.Missing.{Missing}
 use Rattle.traversal.specs.declared.outcome.TooEarly.{TooEarly}
@@ -55,7 +55,7 @@ early_text early = printed (early_numbered early)
 
 -- a missing token in print, after a number and a blank
 abbrev pub lack_text : Lack → List ℕ
-lack_text lack = decimal lack.missing.number ++ codes " " ++ cause_text lack.missing.cause ++ codes " " ++ layer_text lack.layer
+lack_text lack = missing_text lack.missing ++ codes " " ++ layer_text lack.layer
 
 -- a token that the draft lacks
 abbrev pub draft_lack : Missing → Lack

@@ -84,8 +84,8 @@ fn get<N: Copy>(section: &[N], offset: usize) -> N
     section[offset]
 }
 
-/// The cells of a subtree. A call of `tree` for this would be no plainer: it would have to refuse heights that no
-/// subtree has, and here there are none.
+/// The cells of a subtree. A call of `tree` would be no plainer: it would have to refuse heights that no subtree has.
+/// Nor would a number in the plot, of which `Legal` would have to say that it fits.
 pub(crate) fn section_cells(subtree: u32) -> usize
     requires { subtree ≤ 10 }
     ensures { result ≡ subtree_cells subtree }

@@ -67,8 +67,7 @@ impl fmt::Display for Lack {
     ghost output = { λ lack. Some (lack_text lack) };
 
     fn fmt<W: fmt::Write>(&self, f: &mut fmt::Formatter<W>) -> fmt::Result {
-        let Missing { number, cause } = self.missing;
-        write!(f, "{number} {cause} {}", self.layer)
+        write!(f, "{} {}", self.missing, self.layer)
     }
 }
 

@@ -14,7 +14,8 @@ pub(crate) fn push_on<N: Copy>(cells: &mut [N], len: usize, node: N) -> usize
     stack.len
 }
 
-/// The top node of the stack of the first `len` cells of a slice.
+/// The top node of the stack of the first `len` cells of a slice. It pops it and does not read a cell: that one stack
+/// serves all is a rule of the project.
 pub(crate) fn top_of<N: Copy>(cells: &mut [N], len: usize) -> N
     requires { (0 < len) × (len ≤ length cells.old) }
     ensures value { result ≡ slice_index_or cells.old (len - 1) result }

@@ -10,7 +10,7 @@ use crate::growing::Growing;
 use crate::lent::Lent;
 use crate::treehash::Treehash;
 use tree::maker::Maker;
-use tree::source::Source;
+use tree::source::{Source, TOKEN_LENGTH};
 
 // Each call says that it leaves the plot, which it could change: the plot is a field, so that `Legal` and
 // `Standing` need not be asked by each.
@@ -48,7 +48,7 @@ impl Growing {
             stacked,
             ..
         } = self.hash;
-        let mut token = [0; 32];
+        let mut token = [0; TOKEN_LENGTH];
         lent.source.token(leaves, &mut token)?;
         let node = lent.maker.leaf(leaves, &token);
         let stacked = self.home(0, leaves).put(lent.table, stacked, node);

@@ -2,6 +2,7 @@
 use Rattle.std.specs.Prelude.{ℕ, Bool, cond, List, [], ◌∷◌, ◌++◌, Some, None, Option, codes, decimal}
 use Rattle.tree.specs.declared.fault.TooShort.{TooShort}
 use Rattle.tree.specs.declared.fault.Cause.{Cause}
+use Rattle.tree.specs.declared.fault.Missing.{Missing}
 use Rattle.tree.specs.declared.fault.Cause.TheVariants.{Torn, Beyond}
 use Rattle.tree.specs.declared.refusal.Refusal.{Refusal}
 use Rattle.tree.specs.declared.refusal.Refusal.TheVariants.{Height, Subtree}
@@ -21,16 +22,23 @@ spaced [] = []
 spaced (n ∷ ns) = codes " " ++ (decimal n ++ spaced ns)
 
 -- a refusal in print: its number and its values
+abbrev pub refused_text : ℕ × List ℕ → List ℕ
+refused_text known = codes "refused" ++ spaced (known.0 ∷ known.1)
+
 abbrev pub refusal_text : Refusal → List ℕ
-refusal_text r = codes "refused" ++ spaced ((numbered r).0 ∷ (numbered r).1)
+refusal_text r = refused_text (numbered r)
 
 abbrev pub short_text : TooShort → List ℕ
-short_text e = codes "refused" ++ spaced ((short_numbered e).0 ∷ (short_numbered e).1)
+short_text e = refused_text (short_numbered e)
 
 -- the word for why a token is missing
 abbrev pub cause_text : Cause → List ℕ
 cause_text Torn = codes "torn"
 cause_text Beyond = codes "beyond"
+
+-- a missing token in print
+abbrev pub missing_text : Missing → List ℕ
+missing_text m = decimal m.number ++ codes " " ++ cause_text m.cause
 
 -- Checks in their order, each with the refusal of its failure: the first that fails.
 abbrev pub first_refusal : {R : Type 0} → List (Bool × R) → Option R

@@ -1,5 +1,5 @@
 ghost use Rattle.std.specs.Prelude.{◌≡◌, Some};
-ghost use Rattle.tree.specs.Refusals.{short_numbered, short_text, cause_text};
+ghost use Rattle.tree.specs.Refusals.{short_numbered, short_text, cause_text, missing_text};
 
 use std::error::Error;
 use std::fmt;
@@ -54,4 +54,13 @@ impl fmt::Display for Cause {
 pub struct Missing {
     pub number: u32,
     pub cause: Cause,
+}
+
+// Which token, and why.
+impl fmt::Display for Missing {
+    ghost output = { λ missing. Some (missing_text missing) };
+
+    fn fmt<W: fmt::Write>(&self, f: &mut fmt::Formatter<W>) -> fmt::Result {
+        write!(f, "{} {}", self.number, self.cause)
+    }
 }

@@ -36,7 +36,8 @@ pub fn is_subtree(heights: Heights) -> bool
     (1..=GREATEST).contains(&subtree) && height % subtree == 0
 }
 
-/// The shape of a traversal: the height of its tree, that of its subtrees, and how many cells its table has.
+/// The shape of a traversal: the height of its tree, that of its subtrees, and how many cells its table has. The two
+/// heights stand in it one by one, since its clauses are read more often than it is built.
 #[derive(Clone, Copy)]
 pub struct Shape {
     pub height: u32,

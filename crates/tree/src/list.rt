@@ -4,10 +4,10 @@ ghost use Rattle.tree.specs.Supplying.{list_supplies};
 
 use crate::fault::{Cause, Missing};
 use crate::height;
-use crate::source::Source;
+use crate::source::{Source, TOKEN_LENGTH};
 
 /// How many bytes an entry has: a mark and a token.
-const ENTRY: usize = 33;
+const ENTRY: usize = 1 + TOKEN_LENGTH;
 
 /// The mark of a token that is present.
 const PRESENT: u8 = 1;
@@ -58,7 +58,7 @@ impl<'a> Source for ListSource<'a> {
         self.find(number).map(|_| ())
     }
 
-    fn token(&mut self, number: u32, out: &mut [u8; 32]) -> Result<(), Missing> {
+    fn token(&mut self, number: u32, out: &mut [u8; TOKEN_LENGTH]) -> Result<(), Missing> {
         let token = self
             .find(number)
             .map_err(|cause| Missing { number, cause })?;

@@ -5,7 +5,7 @@ ghost use Rattle.tree.specs.Supplying.{seed_supplies};
 use crate::fault::{Cause, Missing, TooShort};
 use crate::height::GREATEST;
 use crate::row::in_row;
-use crate::source::Source;
+use crate::source::{Source, TOKEN_LENGTH};
 use hashing::digest;
 
 /// How many bytes a seed has.
@@ -59,7 +59,7 @@ impl Source for SeedSource {
         }
     }
 
-    fn token(&mut self, number: u32, out: &mut [u8; 32]) -> Result<(), Missing> {
+    fn token(&mut self, number: u32, out: &mut [u8; TOKEN_LENGTH]) -> Result<(), Missing> {
         self.look_up(number)
             .map_err(|cause| Missing { number, cause })?;
         *out = digest(&in_row::<SEEDED>(&self.seed, &number.to_be_bytes()));
