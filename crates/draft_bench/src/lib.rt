@@ -54,6 +54,7 @@ fn draft_root(seed: [u8; 32]) -> Digest
         maker: &mut maker,
         source: &mut source,
     };
+    // by cases: `unwrap` was tried, and its proof did not close
     match root(HEIGHTS, &mut lent) {
         Ok(drafted) => drafted.0,
         Err(_) => unreachable(),
