@@ -1,16 +1,14 @@
 -- The bytes of a strip have no fault and hold what was written.
-use Rattle.std.proofs.Common.{◌≡◌, ℕ, ◌*◌, ◌^◌, ◌<◌, ◌≤◌, ◌+◌, Bool, true, ltb, List, [], ◌∷◌, ◌++◌, length, get_or, take, drop, Some, None, Ok, sym, refl, ap, ◌∙◌, subst, ap₂, ⊎_elim, arith, length-append, pow_mono}
+use Rattle.std.proofs.Common.{◌≡◌, ℕ, ◌*◌, ◌^◌, ◌<◌, ◌≤◌, true, ltb, List, [], ◌∷◌, ◌++◌, length, get_or, take, drop, None, Ok, sym, refl, ap, ◌∙◌, subst, ap₂, arith, length-append, pow_mono}
 use Rattle.std.proofs.lemmas.List.{take_at, drop_at, get_or_at, append-nil, append_assoc, drop-drop, length-take-le}
-use Rattle.std.proofs.lemmas.Bool.{and_parts, leb-true, ltb-true, eq-eqb, cases_Bool, cond-true, cond-false}
+use Rattle.std.proofs.lemmas.Bool.{and_parts, leb-true, le-leb, ltb-true, eq-eqb}
 use Rattle.tree.specs.Meaning.{Meaning, Lawful}
 use Rattle.tree.specs.Numbers.{number_bytes, legal_height}
 use Rattle.tree.specs.Path.{path_bytes, nodes_of}
 use Rattle.tree.proofs.Nodes.{length_path_bytes, nodes_of_path_bytes}
 use Rattle.tree.specs.Numbering.{number_at_bytes}
 use Rattle.strip.specs.Format.{strip_bytes, height_in, number_in, token_in, first_broken, head_rules, token_rules, count_rules, node_rules}
-use Rattle.strip.specs.Calls.{strip_length, Holds, write_checks, write_refusal, Refuses, Appends, Writes}
-use Rattle.tree.specs.Refusals.{first_refusal}
-use Rattle.strip.specs.declared.refusal.Refusal.{Refusal}
+use Rattle.strip.specs.Calls.{strip_length, Holds, write_refusal, Appends, Writes}
 use Rattle.strip.proofs.Appending.{appends_then, appends_all}
 use Rattle.strip.proofs.Rules.{fault_is}
 use Rattle.strip.proofs.Faultless.{no_fault, nodes_faultless}
@@ -97,45 +95,6 @@ module _ {N : Type 0} (m : Meaning N) (ok : Lawful m) (H n : ℕ) (secret : List
         path = ap₂ (nodes_of m) (height_at ∙ sym many) (path_at ∙ sym (append-nil (path_bytes m siblings))) ∙ nodes_of_path_bytes m ok siblings [];
       }
 
--- checks that all passed
-abbrev pub Passed : List (Bool × Refusal) → Type 0
-Passed [] = Unit {0}
-Passed (check ∷ checks) = (check.0 ≡ true) × Passed checks
-
-pub passed : (checks : List (Bool × Refusal)) → first_refusal checks ≡ None → Passed checks
-passed [] e = tt
-passed (check ∷ checks) e =
-    ⊎_elim (λ good. (good, passed checks (sym (cond-true check.0 (first_refusal checks) (Some check.1) good) ∙ e)))
-    (λ bad.
-    let some = sym (cond-false check.0 (first_refusal checks) (Some check.1) bad) ∙ e in
-    absurd (cc))
-    (cases_Bool check.0)
-
--- what the checks leave room for, and how much is taken
-pub record Fits {N : Type 0} (m : Meaning N) (H n : ℕ) (siblings : List N) (secret before : List ℕ) : Type 0 where
-  pub legal : legal_height H ≡ true
-  pub below : ltb n (2 ^ H) ≡ true
-  pub path : H ≤ length siblings
-  pub token : 32 ≤ length secret
-  pub strip : 41 + H * m.width ≤ length before
-  pub path_taken : length (take H siblings) ≡ H
-  pub token_taken : length (take 32 secret) ≡ 32
-
-pub fits : {N : Type 0} (m : Meaning N) (H n : ℕ) (siblings : List N) (secret before : List ℕ) → write_refusal m H n (length siblings) (length secret) (length before) ≡ None → Fits m H n siblings secret before
-fits m H n siblings secret before e =
-    let checks = passed (write_checks m H n (length siblings) (length secret) (length before)) e in
-    let path = leb-true H (length siblings) checks.1.1.0 in
-    let token = leb-true 32 (length secret) checks.1.1.1.0 in
-    record {
-      legal = checks.0;
-      below = checks.1.0;
-      path = path;
-      token = token;
-      strip = leb-true (strip_length m H) (length before) checks.1.1.1.1.0;
-      path_taken = length-take-le H siblings path;
-      token_taken = length-take-le 32 secret token;
-    }
-
 -- the parts of a strip, put one after another
 pub strip_row : {N : Type 0} (m : Meaning N) (H n k : ℕ) (num secret : List ℕ) (siblings : List N) {out a b c d e f : List ℕ} {p q r s t u : ℕ} →
     k ≡ m.kind → num ≡ number_bytes n →
@@ -148,17 +107,20 @@ strip_row m H n k num secret siblings {out} {f = f} {u = u} is-kind is_number on
     ∙ ap (λ l. 6 ∷ m.kind ∷ H ∷ (number_bytes n ++ 32 ∷ l)) (append_assoc secret (H ∷ []) (path_bytes m siblings)) in
     subst (λ l. Appends out 0 l f u) same all
 
--- what writing leaves, once the bytes are there
-pub written : {N : Type 0} (m : Meaning N) → Lawful m → (H n : ℕ) (siblings : List N) (secret before later : List ℕ) (long end : ℕ) →
-    Refuses m H n (length siblings) (length secret) (length before) (Ok long) →
+-- what writing leaves, once the checks have passed and the bytes are there
+pub written : {N : Type 0} (m : Meaning N) → Lawful m → (H n : ℕ) (siblings : List N) (secret before later : List ℕ) (end : ℕ) →
+    legal_height H ≡ true → ltb n (2 ^ H) ≡ true → H ≤ length siblings → 32 ≤ length secret → strip_length m H ≤ length before →
     Appends before 0 (strip_bytes m H n (take 32 secret) (take H siblings)) later end →
-    Writes m H n siblings secret before later (Ok long)
-written m ok H n siblings secret before later long end room all =
-    let all_fits = fits m H n siblings secret before room.0 in
-    let size = length_strip m ok H n (take 32 secret) (take H siblings) all_fits.token_taken all_fits.path_taken in
+    Writes m H n siblings secret before later (Ok (strip_length m H))
+written m ok H n siblings secret before later end legal below path token strip all =
+    let many = length-take-le H siblings path in
+    let long = length-take-le 32 secret token in
+    let size = length_strip m ok H n (take 32 secret) (take H siblings) long many in
     let last = all.end_is in
-    let at : end ≡ long = let needed = room.1 in omega arith in
+    let at : end ≡ strip_length m H = omega arith in
     let now-is = appends_all all ∙ ap (λ k. strip_bytes m H n (take 32 secret) (take H siblings) ++ drop k before) at in
     let front = sym (ap (λ k. take k later) (sym at) ∙ all.front) in
-    let whole = holds m ok H n (take 32 secret) (take H siblings) all_fits.token_taken all_fits.path_taken all_fits.legal all_fits.below in
-    (room.0, room.1, now-is, subst (λ bs. Holds m bs H n (take 32 secret) (take H siblings)) front whole)
+    let whole = holds m ok H n (take 32 secret) (take H siblings) long many legal below in
+    let none : write_refusal m H n (length siblings) (length secret) (length before) ≡ None =
+    simp (legal, below, le-leb H (length siblings) path, le-leb 32 (length secret) token, le-leb (strip_length m H) (length before) strip) refl in
+    (none, refl, now-is, subst (λ bs. Holds m bs H n (take 32 secret) (take H siblings)) front whole)

@@ -1,6 +1,6 @@
-ghost use Rattle.std.specs.Prelude.{◌≡◌, ◌+◌, ◌*◌, ◌≤◌, ◌++◌, length};
+ghost use Rattle.std.specs.Prelude.{◌+◌, ◌*◌, ◌≤◌, length};
 ghost use Rattle.tree.specs.Path.{path_bytes};
-ghost use Rattle.strip.specs.Calls.{strip_length, write_refusal, Writes, Refuses};
+ghost use Rattle.strip.specs.Calls.{Writes};
 
 use crate::layout::{HEAD_COUNT, TOKEN_COUNT, TOKEN_LENGTH, strip_length};
 use crate::refusal::Refusal;
@@ -20,10 +20,22 @@ pub fn write<M: Maker>(
 ) -> Result<usize, Refusal>
     ensures { Writes (M.meaning maker.now) height number path.now token.now out.old out.new result }
 {
-    let needed = room(maker, height, number, path.len(), token.len(), out.len())?;
+    if !is_height(height) {
+        return Err(Refusal::Height(height));
+    }
+    if !has_leaf(height, number) {
+        return Err(Refusal::Number(number));
+    }
+    let nodes = height as usize;
+    let path = path.get(..nodes).ok_or(TooShort { needed: nodes })?;
+    let token = token.get(..TOKEN_LENGTH).ok_or(TooShort {
+        needed: TOKEN_LENGTH,
+    })?;
+    let needed = strip_length(maker, height);
+    if out.len() < needed {
+        return Err(TooShort { needed }.into());
+    }
     let count = height as u8;
-    let path = &path[..height as usize];
-    let token = &token[..TOKEN_LENGTH];
     let mut writer = Writer { out, place: 0 };
     writer.put(&[HEAD_COUNT, maker.kind(), count]);
     writer.put(&number.to_be_bytes());
@@ -31,41 +43,6 @@ pub fn write<M: Maker>(
     writer.put(token);
     writer.put(&[count]);
     writer.put_path(maker, path);
-    Ok(needed)
-}
-
-/// How long the strip is, or why it can't be written. All checks stand here, in their order, and look at lengths
-/// alone: taken where the slices are cut they would be no plainer, and `write` twice as long.
-fn room<M: Maker>(
-    maker: &M,
-    height: u32,
-    number: u32,
-    nodes: usize,
-    token: usize,
-    out: usize,
-) -> Result<usize, Refusal>
-    ensures { Refuses (M.meaning maker.now) height number nodes token out result }
-{
-    if !is_height(height) {
-        return Err(Refusal::Height(height));
-    }
-    if !has_leaf(height, number) {
-        return Err(Refusal::Number(number));
-    }
-    let count = height as usize;
-    if nodes < count {
-        return Err(TooShort { needed: count }.into());
-    }
-    if token < TOKEN_LENGTH {
-        return Err(TooShort {
-            needed: TOKEN_LENGTH,
-        }
-        .into());
-    }
-    let needed = strip_length(maker, height);
-    if out < needed {
-        return Err(TooShort { needed }.into());
-    }
     Ok(needed)
 }
 
