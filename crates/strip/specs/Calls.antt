@@ -43,10 +43,6 @@ write_checks m H n cells secret out =
 abbrev pub write_refusal : {N : Type 0} → Meaning N → ℕ → ℕ → ℕ → ℕ → ℕ → Option Refusal
 write_refusal m H n cells secret out = first_refusal (write_checks m H n cells secret out)
 
-abbrev pub Refuses : {N : Type 0} → Meaning N → ℕ → ℕ → ℕ → ℕ → ℕ → Result ℕ Refusal → Type 0
-Refuses m H n cells secret out (Ok long) = (write_refusal m H n cells secret out ≡ None) × (long ≡ strip_length m H)
-Refuses m H n cells secret out (Err r) = write_refusal m H n cells secret out ≡ Some r
-
 -- Bytes put at a place, up to an end: what stood before and after them is kept.
 pub record Appends (before : List ℕ) (at : ℕ) (bytes later : List ℕ) (end : ℕ) : Type 0 where
   pub end_is : end ≡ at + length bytes

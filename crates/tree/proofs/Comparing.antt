@@ -19,12 +19,12 @@ abbrev is_sound : Span → Bool
 is_sound (Sound a) = true
 is_sound Broken = false
 
-pub span_eq-Decides : (x y : Span) → Decides (span.ghosts.eq x y) (x ≡ y)
-span_eq-Decides (Sound a) (Sound b) =
+pub span_eq_decides : (x y : Span) → Decides (span.ghosts.eq x y) (x ≡ y)
+span_eq_decides (Sound a) (Sound b) =
     Decides-like (eqb a.first b.first && eqb a.height b.height)
     (λ same. ap Sound (same_interval a b same.0 same.1))
     (λ same. (ap first_of same, ap height_of same))
     (Decides-and _ _ (Decides-eqb a.first b.first) (Decides-eqb a.height b.height))
-span_eq-Decides (Sound a) Broken = (λ e. cc, λ e. ap is_sound (sym e))
-span_eq-Decides Broken (Sound b) = (λ e. cc, λ e. ap is_sound e)
-span_eq-Decides Broken Broken = (λ e. refl, λ e. refl)
+span_eq_decides (Sound a) Broken = (λ e. cc, λ e. ap is_sound (sym e))
+span_eq_decides Broken (Sound b) = (λ e. cc, λ e. ap is_sound e)
+span_eq_decides Broken Broken = (λ e. refl, λ e. refl)
