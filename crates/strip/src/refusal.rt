@@ -56,9 +56,9 @@ impl Section {
 }
 
 impl Refusal {
-    /// The number by which a refusal is known outside. It is one fact of a refusal, not the refusal in another
-    /// form, so this is no conversion. A height has the number that it has in `tree`, whose own refusal would be no
-    /// plainer here: it can also be one of subtrees.
+    /// The number by which a refusal is known outside. It is one fact of a refusal, not the refusal in another form, so
+    /// this is no conversion. Nor would a trait be plainer: each type has a definition of its own. A height has the
+    /// number that it has in `tree`, whose own refusal would be no plainer here: it can also be one of subtrees.
     pub fn number(self) -> u8
         ensures { result ≡ (numbered self).0 }
     {
