@@ -8,7 +8,7 @@ use std::io;
 use std::process::ExitCode;
 use strip::judge::judge;
 use text::answer::Verdict;
-use text::hex::decode;
+use text::bytes::decode;
 
 /// The message is printed here, under the program's name, and not by returning the error.
 fn main(rt: HostRuntime) -> io::Result<ExitCode> {

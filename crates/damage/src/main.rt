@@ -8,7 +8,7 @@ use std::fmt::Display;
 use strip::judge::judge;
 use text::answer::Verdict;
 use text::damage::{each_change, each_cut};
-use text::hex::decode;
+use text::bytes::decode;
 
 /// The bits that are inverted in each byte, one at a time.
 const BITS: [u8; 2] = [1, 128];

@@ -2,7 +2,7 @@ use crate::tried::Tried;
 use crate::words::{Answer, Ending, Made, Tally};
 use session::root::root;
 use std::alloc::AllocError;
-use text::hex::node_hex;
+use text::bytes::node_hex;
 use traversal::lent::Lent;
 use traversal::outcome::Incomplete;
 use traversal::refusal::Refusal;

@@ -6,7 +6,7 @@
 use session::root::root;
 use std::alloc::{AllocError, Global};
 use std::io::Read;
-use text::hex::node_hex;
+use text::bytes::node_hex;
 use thiserror::Error;
 use ticket::job;
 use ticket::job::Job;

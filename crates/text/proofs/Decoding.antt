@@ -3,7 +3,7 @@ use Rattle.std.proofs.Common.{◌≡◌, ℕ, ◌+◌, ◌*◌, ◌/◌, ◌%◌
 use Rattle.std.proofs.lemmas.List.{append_assoc, drop_more}
 use Rattle.std.specs.Simd.{first_chunks}
 use Rattle.strip.specs.Hex.{digit_value}
-use Rattle.text.specs.declared.hex.NoBytes.{NoBytes}
+use Rattle.text.specs.declared.bytes.NoBytes.{NoBytes}
 use Rattle.text.specs.Hex.{byte_before, bytes_of}
 use Rattle.tree.proofs.Listing.{chunk_at}
 

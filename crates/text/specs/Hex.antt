@@ -2,8 +2,8 @@
 use Rattle.std.specs.Prelude.{◌≡◌, ℕ, ◌+◌, ◌*◌, List, [], ◌∷◌, Some, None, Ok, Err, vec_items, Option, Result, Vec}
 use Rattle.std.specs.declared.alloc.Global.{Global}
 use Rattle.strip.specs.Hex.{digit_value}
-use Rattle.text.specs.declared.hex.NoBytes.{NoBytes}
-use Rattle.text.specs.declared.hex.NoBytes.TheVariants.{NotHex, NoMemory}
+use Rattle.text.specs.declared.bytes.NoBytes.{NoBytes}
+use Rattle.text.specs.declared.bytes.NoBytes.TheVariants.{NotHex, NoMemory}
 
 -- one byte more in front, if both digits and the rest are there
 abbrev pub byte_before : Option ℕ → Option ℕ → Option (List ℕ) → Option (List ℕ)

@@ -3,5 +3,5 @@
 #![tactic(auto)]
 
 pub mod answer;
+pub mod bytes;
 pub mod damage;
-pub mod hex;

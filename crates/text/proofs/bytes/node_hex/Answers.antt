@@ -3,7 +3,7 @@ use Rattle.std.proofs.lemmas.List.{take_at}
 use Rattle.std.proofs.lemmas.Result.{IfOk-weaker}
 use Rattle.hex.specs.Hex.{encode_lower}
 use Rattle.strip.proofs.Appending.{puts_whole}
-use Rattle.text.proofs.hex.node_hex.Goals as goal
+use Rattle.text.proofs.bytes.node_hex.Goals as goal
 
 pub returns : goal.returns
 returns g c =

@@ -2,10 +2,10 @@ use Rattle.std.proofs.Common.{ℕ, ◌+◌, ◌*◌, [], ◌∷◌, length, drop
 use Rattle.std.proofs.lemmas.Bool.{eqb-false}
 use Rattle.std.proofs.lemmas.Slice.{pushed}
 use Rattle.strip.proofs.Returning.{err_is}
-use Rattle.text.specs.declared.hex.NoBytes.TheVariants.{NotHex}
+use Rattle.text.specs.declared.bytes.NoBytes.TheVariants.{NotHex}
 use Rattle.text.specs.Hex.{bytes_of}
 use Rattle.text.proofs.Decoding.{after, odd_none, no_digit, pair_read, pair_more}
-use Rattle.text.proofs.hex.decode.Goals as goal
+use Rattle.text.proofs.bytes.decode.Goals as goal
 
 pub returns-then-not-is_empty : goal.returns-then-not-is_empty
 returns-then-not-is_empty c =

@@ -1,6 +1,6 @@
 ghost use Rattle.std.specs.Prelude.{◌≡◌, IfOk, string_bytes};
 ghost use Rattle.hex.specs.Hex.{encode_lower};
-ghost use Rattle.text.specs.declared.hex.NoBytes.TheVariants.{NoMemory};
+ghost use Rattle.text.specs.declared.bytes.NoBytes.TheVariants.{NoMemory};
 ghost use Rattle.text.specs.Hex.{Decodes};
 
 use hex::encode;
