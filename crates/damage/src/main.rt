@@ -7,8 +7,8 @@ use std::alloc::{AllocError, Global};
 use std::fmt::Display;
 use strip::judge::judge;
 use text::answer::Verdict;
-use text::damage::{each_change, each_cut};
 use text::bytes::decode;
+use text::damage::{each_change, each_cut};
 
 /// The bits that are inverted in each byte, one at a time.
 const BITS: [u8; 2] = [1, 128];

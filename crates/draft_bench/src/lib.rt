@@ -11,7 +11,7 @@ use traversal::lent::Lent;
 use tree::digest::Digest;
 use tree::geometry::Heights;
 use tree::sealed::Sealed;
-use tree::seed::SeedSource;
+use tree::seed::{SEED_LENGTH, SeedSource};
 
 /// The height of the tree, and that of the subtrees of its traversal.
 const HEIGHTS: Heights = Heights {
@@ -43,7 +43,7 @@ pub extern "C" fn draft_bench_root(seed: &[u8], out: &mut [u8]) -> bool
 }
 
 /// The root of the tree over the tokens of a seed.
-fn draft_root(seed: [u8; 32]) -> Digest
+fn draft_root(seed: [u8; SEED_LENGTH]) -> Digest
     ensures { result ≡ seed_root seed }
 {
     let mut table = [Digest { bytes: [0; DIGEST] }; CELLS];

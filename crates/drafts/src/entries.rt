@@ -1,7 +1,7 @@
 use std::alloc::Global;
 use tree::source::TOKEN_LENGTH;
 
-/// The mark of a token that is present.
+/// The mark of a token that is present, said here again: the reading of it is what is tried.
 const PRESENT: u8 = 1;
 
 /// A mark of a token that is torn.

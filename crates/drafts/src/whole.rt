@@ -5,10 +5,10 @@ use traversal::state::Draft;
 use tree::dummy::Dummy;
 use tree::geometry::Heights;
 use tree::sealed::Sealed;
-use tree::seed::SeedSource;
+use tree::seed::{SEED_LENGTH, SeedSource};
 
 /// The seed of the tokens.
-const SEED: [u8; 32] = [7; 32];
+const SEED: [u8; SEED_LENGTH] = [7; SEED_LENGTH];
 
 /// How many units a step may make: one, some, or all.
 const BUDGETS: [u64; 3] = [1, 3, u64::MAX];

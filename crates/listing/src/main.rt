@@ -18,7 +18,7 @@ use tree::dummy::Dummy;
 use tree::kind::Kind;
 use tree::maker::Maker;
 use tree::sealed::Sealed;
-use tree::seed::SeedSource;
+use tree::seed::{SEED_LENGTH, SeedSource};
 use tree::span::Span;
 
 /// How many cells the table has.
@@ -49,8 +49,8 @@ fn main(rt: HostRuntime) -> anyhow::Result<()> {
 
 /// The line on the tree that a ticket asks for.
 fn list(heap: Global, text: &[u8]) -> Result<String, Failure> {
-    let mut source = SeedSource::new([0; 32]);
-    let job = read(text, &mut [0; 32], &mut source)?;
+    let mut source = SeedSource::new([0; SEED_LENGTH]);
+    let job = read(text, &mut [0; SEED_LENGTH], &mut source)?;
     match job.kind {
         Kind::Sealed => draft::<Sealed>(heap, job, source, Digest { bytes: [0; 32] }),
         Kind::Dummy => draft::<Dummy>(heap, job, source, Span::Broken),

@@ -8,7 +8,7 @@ pub enum Held {
     Running(Run),
 }
 
-/// A call that can be made on a draft. The law is about lists of calls, and these are their letters.
+/// A call that can be made on a draft. A closure would be no plainer: `call` says that what it made is what was asked.
 #[derive(Clone, Copy, Debug, PartialEq, Eq)]
 pub enum Ask {
     Step(u64),

@@ -48,8 +48,8 @@ fn finish<M: Maker, S: Source>(
     Ok((root?, totals.drafted))
 }
 
-/// What the next unit of a draft lacks: a step is refused for it. That the table has room is asked here, since a table
-/// is lent only for a call.
+/// What the next unit of a draft lacks: a step is refused for it. That the table has room is asked here; no struct
+/// that holds the table beside this fact is covered by the check.
 fn lack<M: Maker, S: Source>(mut draft: Draft, lent: &mut Lent<M, S>) -> Refusal
     requires room { draft.shape.cells ≤ length lent.old.table.now }
     requires unfinished { units draft < units_in_all draft }

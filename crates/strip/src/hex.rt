@@ -1,7 +1,8 @@
 ghost use Rattle.std.specs.Prelude.{◌≡◌, ◌<◌, IfSome};
 ghost use Rattle.strip.specs.Hex.{digit_value};
 
-/// The value of a lower-case hex digit. By hand, since `to_digit` takes upper case, too.
+/// The value of a lower-case hex digit. By hand, since `to_digit` takes upper case,
+/// too, and answers a `u32`.
 pub fn digit(byte: u8) -> Option<u8>
     ensures value { result ≡ digit_value byte }
     ensures bound { IfSome result (λ v. v < 16) }

@@ -19,6 +19,7 @@ pub fn read<'a, M: Maker>(
 {
     let strip = parse(maker, bytes)?;
     let height = strip.height as usize;
+    // a test of the length: `fill` takes the cells whole, since the contract tells of those past the nodes, too
     if cells.len() < height {
         return Err(TooShort { needed: height }.into());
     }

@@ -47,7 +47,7 @@ impl Section {
         }
     }
 
-    /// The sections count from 1. It is a method, as that of each refusal; a `From` would be no plainer.
+    /// The sections count from 1. A `From` would be no plainer: what is told outside is asked of all by `number`.
     pub fn number(self) -> u8
         ensures { result ≡ section_number self }
     {
@@ -57,8 +57,8 @@ impl Section {
 
 impl Refusal {
     /// The number by which a refusal is known outside. It is one fact of a refusal, not the refusal in another form, so
-    /// this is no conversion. Nor would a trait be plainer: each type has a definition of its own. A height has the
-    /// number that it has in `tree`, whose own refusal would be no plainer here: it can also be one of subtrees.
+    /// this is no conversion. Nor would a trait be plainer: no generic code asks for it. A height has the number that it
+    /// has in `tree`, whose own refusal would be no plainer here: it can also be one of subtrees.
     pub fn number(self) -> u8
         ensures { result ≡ (numbered self).0 }
     {

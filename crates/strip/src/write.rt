@@ -32,6 +32,7 @@ pub fn write<M: Maker>(
         needed: TOKEN_LENGTH,
     })?;
     let needed = strip_length(maker, height);
+    // a test of the length: the writer takes `out` whole
     if out.len() < needed {
         return Err(TooShort { needed }.into());
     }

@@ -119,7 +119,7 @@ impl<'a> Reader<'a> {
     }
 }
 
-/// The maker whose name begins with a byte.
+/// The maker whose name begins with a byte. A function, since a `match` on bytes gives a proof no fact to cite.
 fn named(first: u8) -> Option<Kind>
     ensures { Begins first result }
 {

@@ -9,7 +9,7 @@ use text::damage::{each_change, each_cut};
 use ticket::job::Job;
 use ticket::ticket::read;
 use tree::geometry::{Heights, size};
-use tree::seed::SeedSource;
+use tree::seed::{SEED_LENGTH, SeedSource};
 use tree::source::{Source, TOKEN_LENGTH};
 
 /// The bits that are inverted in each byte, one at a time.
@@ -45,7 +45,7 @@ fn main(rt: HostRuntime) -> anyhow::Result<()> {
 /// What a text asks for, with the beginning of its first token; or where it goes wrong.
 fn tell<D: Display + Copy>(rt: &HostRuntime, what: D, text: &[u8]) -> anyhow::Result<()> {
     let mut scratch = [255; 40];
-    let mut source = SeedSource::new([0; 32]);
+    let mut source = SeedSource::new([0; SEED_LENGTH]);
     match read(text, &mut scratch, &mut source) {
         Ok(job) => {
             let token = first_token(&mut source);

@@ -109,7 +109,7 @@ impl Draft {
         }
     }
 
-    /// One unit. That the table has room is asked here and in `go_on`, since a table is lent only for a call.
+    /// One unit. That the table has room is asked here and in `go_on`; why no struct holds it stands at `Growing`.
     fn unit<M: Maker, S: Source>(&mut self, lent: &mut Lent<M, S>) -> Result<(), DraftFault>
         requires room { self.old.shape.cells ≤ length lent.old.table.now }
         requires unfinished { units self.old < units_in_all self.old }

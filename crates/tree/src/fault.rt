@@ -12,7 +12,7 @@ pub struct TooShort {
 
 impl TooShort {
     /// The number by which a refusal is known outside. It is one fact of a refusal, not the refusal in another form, so
-    /// this is no conversion. Nor would a trait be plainer: each type has a definition of its own.
+    /// this is no conversion. Nor would a trait be plainer: no generic code asks for it.
     pub fn number(self) -> u8
         ensures { result ≡ (short_numbered self).0 }
     {

@@ -36,7 +36,7 @@ impl<'a> ListSource<'a> {
             return Err(Cause::Beyond);
         }
         let (entries, _) = self.bytes.as_chunks::<ENTRY>();
-        // as a slice: a `match` on an array behind a reference is not covered by the check
+        // as a slice: of an array at an element the check does not cover that a part is taken
         let entry = &entries[number as usize][..];
         match entry {
             [PRESENT, token @ ..] => Ok(token),
