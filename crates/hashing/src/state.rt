@@ -66,8 +66,8 @@ impl State {
     }
 
     /// A run of rounds, with their constants and words.
-    /// Written out: with a loop or a fold over the two, a hash takes a quarter longer, and the bar of 1.1 times the
-    /// scalar Rust in bench/ is missed.
+    /// Written out: with a loop over the two, a hash takes a quarter longer, and one of 64 bytes misses the bar of 1.1
+    /// times the scalar Rust in bench/.
     fn rounds(self, constants: &[u32; RUN], words: &[u32; RUN]) -> State
         ensures { (m : List ℕ) (start : State) (t : ℕ) → HasConstants t constants.now → Stage m start t self words.now → result ≡ rounds m (t + 16) start }
     {
@@ -122,8 +122,8 @@ impl State {
     }
 
     /// The hash value after the block that is the padding of a message of one block.
-    /// Not `compress` of that block: without the schedule in a table, a hash of 64 bytes takes a quarter longer, and the
-    /// bar of 1.1 times the scalar Rust in bench/ is missed.
+    /// Not `compress` of that block: without the schedule in a table, a hash of 64 bytes takes three tenths longer and
+    /// misses the bar of 1.1 times the scalar Rust in bench/.
     pub fn absorb_padding(self) -> State
         ensures { result ≡ compressed self (padding 64) }
     {

@@ -1,8 +1,7 @@
 ghost use Rattle.std.specs.Prelude.{◌≡◌, ◌<◌, IfSome};
 ghost use Rattle.strip.specs.Hex.{digit_value};
 
-/// The value of a lower-case hex digit. By hand, since `to_digit` takes upper case,
-/// too, and answers a `u32`.
+/// The value of a lower-case hex digit. By hand, since `to_digit` takes upper case, too, and answers a `u32`.
 pub fn digit(byte: u8) -> Option<u8>
     ensures value { result ≡ digit_value byte }
     ensures bound { IfSome result (λ v. v < 16) }
