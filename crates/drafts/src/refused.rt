@@ -101,7 +101,8 @@ pub(crate) fn tell_begins(rt: &HostRuntime) -> anyhow::Result<()> {
 pub(crate) fn tell_short_table(rt: &HostRuntime) -> anyhow::Result<()> {
     let bytes = entries(rt.alloc(), TOKENS, None)?;
     let short = vec![in rt.alloc(); Dummy::FILLER; CELLS - 1]?;
-    let mut trial = Trial::<Dummy, _>::new(rt, HEIGHTS, ListSource::new(&bytes))?;
+    let source = ListSource::new(&bytes);
+    let mut trial = Trial::<Dummy, _>::with_cells(rt, HEIGHTS, source, CELLS)?;
     let mut draft = trial.begin()?;
     let told = tell_two_tables(&mut trial, &mut draft, short);
     trial.tell_end("long table", draft, told)
@@ -141,7 +142,8 @@ fn tell_lack<'a>(
     begun: &'a [u8],
     stepped: &'a [u8],
 ) -> anyhow::Result<()> {
-    let mut trial = Trial::<Dummy, _>::new(rt, HEIGHTS, ListSource::new(begun))?;
+    let source = ListSource::new(begun);
+    let mut trial = Trial::<Dummy, _>::with_cells(rt, HEIGHTS, source, CELLS)?;
     let mut draft = trial.begin()?;
     trial.source = ListSource::new(stepped);
     let told = tell_steps(&mut trial, name, &mut draft);

@@ -36,6 +36,16 @@ impl<'a, M: Tried, S: Source + Drop> Trial<'a, M, S> {
         source: S,
     ) -> anyhow::Result<Trial<'a, M, S>> {
         let cells = needed(heights).saturating_add(MORE);
+        Trial::with_cells(rt, heights, source, cells)
+    }
+
+    /// The same with a table of so many cells.
+    pub(crate) fn with_cells(
+        rt: &'a HostRuntime,
+        heights: Heights,
+        source: S,
+        cells: usize,
+    ) -> anyhow::Result<Trial<'a, M, S>> {
         Ok(Trial {
             rt,
             heights,

@@ -40,39 +40,37 @@ fn main(rt: HostRuntime) -> anyhow::Result<()> {
     let mut text = Vec::new(rt.alloc());
     rt.stdin().read_to_end(&mut text)?;
     match list(rt.alloc(), &text) {
-        Ok(line) => println!(rt; "{line}")?,
+        Ok((root, units)) => println!(rt; "root {root} {units}")?,
         Err(Failure::Memory(failure)) => return Err(failure.into()),
         Err(refusal) => println!(rt; "{refusal}")?,
     }
     Ok(())
 }
 
-/// The line on the tree that a ticket asks for.
-fn list(heap: Global, text: &[u8]) -> Result<String, Failure> {
+/// The root of the tree that a ticket asks for, in hex, and how many nodes were made.
+fn list(heap: Global, text: &[u8]) -> Result<(String, u64), Failure> {
     let mut source = SeedSource::new([0; SEED_LENGTH]);
     let job = read(text, &mut [0; SEED_LENGTH], &mut source)?;
     match job.kind {
-        Kind::Sealed => draft::<Sealed>(heap, job, source, Digest { bytes: [0; 32] }),
-        Kind::Dummy => draft::<Dummy>(heap, job, source, Span::Broken),
+        Kind::Sealed => draft::<Sealed>(heap, job, &mut source, Digest { bytes: [0; 32] }),
+        Kind::Dummy => draft::<Dummy>(heap, job, &mut source, Span::Broken),
     }
 }
 
-/// Drafts the tree of a job, in a table that is full of one node before: its root, and how many nodes were made.
+/// The same of a job, in a table that is full of one node before.
 fn draft<M: Maker + Default + Drop>(
     heap: Global,
     job: Job,
-    mut source: SeedSource,
+    source: &mut SeedSource,
     filler: M::Node,
-) -> Result<String, Failure> {
+) -> Result<(String, u64), Failure> {
     let mut maker = M::default();
     let mut table = vec![in heap; filler; CELLS]?;
     let mut lent = Lent {
         table: &mut table,
         maker: &mut maker,
-        source: &mut source,
+        source,
     };
     let (root, (leaves, joins)) = root(job.heights, &mut lent)?;
-    let root = node_hex(heap, &maker, root)?;
-    let units = leaves.saturating_add(joins);
-    Ok(format!(in heap; "root {root} {units}")?)
+    Ok((node_hex(heap, &maker, root)?, leaves.saturating_add(joins)))
 }

@@ -2,8 +2,10 @@ ghost use Rattle.std.specs.Prelude.{◌≡◌, ◌<◌, ◌≤◌, length, Some}
 ghost use Rattle.traversal.specs.declared.refusal.Refusal.{Refusal as Refused};
 ghost use Rattle.traversal.specs.Worlds.{world_of, SameLoans};
 ghost use Rattle.traversal.specs.Calls.{units, units_in_all, unit_lacks, Begun};
+ghost use Rattle.session.specs.Law.{LawfulFrom};
 ghost use Rattle.session.specs.Root.{DraftsRoot, Finished};
 
+use crate::open::open;
 use traversal::lent::Lent;
 use traversal::outcome::Incomplete;
 use traversal::refusal::Refusal;
@@ -20,7 +22,7 @@ pub fn root<M: Maker, S: Source>(
     ensures drafted { DraftsRoot heights.height heights.subtree (world_of M.meaning M.meter S.supply lent.old) result (world_of M.meaning M.meter S.supply lent.new) }
     ensures same_loans { SameLoans lent.old lent.new }
 {
-    let mut draft = begin(heights, lent)?;
+    let mut draft = open_with(heights, lent)?;
     // whether it goes to the end is seen at the turn
     let _ = draft.step(lent, u64::MAX);
     match draft.turn() {
@@ -29,11 +31,13 @@ pub fn root<M: Maker, S: Source>(
     }
 }
 
-/// Begins a draft with what is lent. Of what lies behind a `&mut` the check lends one field at a time.
-fn begin<M: Maker, S: Source>(heights: Heights, lent: &Lent<M, S>) -> Result<Draft, Refusal>
-    ensures { Begun heights.height heights.subtree (length lent.now.table.now) (S.supply lent.now.source.now) result }
+/// Opens a draft with what is lent, so that the law holds of it. Of what lies behind a `&mut` the check lends one field
+/// at a time.
+fn open_with<M: Maker, S: Source>(heights: Heights, lent: &Lent<M, S>) -> Result<Draft, Refusal>
+    ensures begun { Begun heights.height heights.subtree (length lent.now.table.now) (S.supply lent.now.source.now) result }
+    ensures lawful { LawfulFrom heights.height heights.subtree (world_of M.meaning M.meter S.supply lent.now) result }
 {
-    Draft::begin(heights, lent.table, lent.source)
+    open(heights, lent.table, lent.maker, lent.source)
 }
 
 /// The root and what the draft made, of a run that is closed.

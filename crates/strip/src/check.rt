@@ -19,7 +19,7 @@ pub fn check<M: Maker>(maker: &mut M, bytes: &[u8], root: M::Node) -> Result<boo
 }
 
 /// Whether the token and the path of a strip that was taken apart lead to the root.
-pub(crate) fn leads_to<M: Maker>(maker: &mut M, strip: &Strip, root: M::Node) -> bool
+fn leads_to<M: Maker>(maker: &mut M, strip: &Strip, root: M::Node) -> bool
     requires { OnlyNodes (M.meaning maker.old) strip.now }
     ensures answer { Decides result (strip_leads (M.meaning maker.old) strip.now ≡ root) }
     ensures keeps { M.meaning maker.new ≡ M.meaning maker.old }

@@ -5,7 +5,7 @@ ghost use Rattle.tree.specs.Digests.{sealed_meaning};
 ghost use Rattle.tree.specs.Spans.{dummy_meaning};
 ghost use Rattle.strip.specs.Calls.{Judges, JudgesByKind, AcceptsRoot, CountsJudging};
 
-use crate::check::leads_to;
+use crate::check::check;
 use crate::parse::parse;
 use crate::refusal::Refusal;
 use tree::dummy::Dummy;
@@ -48,13 +48,16 @@ pub fn judge_with<M: Maker>(maker: &mut M, root: &[u8], bytes: &[u8]) -> Result<
     ensures keeps { M.meaning maker.new ≡ M.meaning maker.old }
     ensures counts { CountsJudging (M.meaning maker.old) root.now bytes.now result (M.meter maker.old) (M.meter maker.new) }
 {
-    let strip = parse(maker, bytes)?;
     let needed = maker.width();
+    if root.len() == needed {
+        if let Some(node) = front_node(maker, root) {
+            return check(maker, bytes, node);
+        }
+    }
+    // No node: a fault of the strip comes before one of the root.
+    parse(maker, bytes)?;
     if root.len() != needed {
         return Err(TooShort { needed }.into());
     }
-    let Some(node) = front_node(maker, root) else {
-        return Ok(false);
-    };
-    Ok(leads_to(maker, &strip, node))
+    Ok(false)
 }

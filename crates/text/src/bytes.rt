@@ -9,12 +9,16 @@ use strip::hex::digit;
 use thiserror::Error;
 use tree::maker::Maker;
 
-/// The bytes of a node in lower-case hex.
+/// The greatest width of a node.
+const WIDEST: usize = 32;
+
+/// The bytes of a node in lower-case hex. It takes memory for the text alone.
 pub fn node_hex<M: Maker>(heap: Global, maker: &M, node: M::Node) -> Result<String, AllocError>
     ensures { IfOk result (λ s. string_bytes s ≡ encode_lower ((M.meaning maker.now).put node)) }
 {
-    let mut bytes = vec![in heap; 0; maker.width()]?;
-    maker.put(node, &mut bytes).unwrap();
+    let mut room = [0; WIDEST];
+    let bytes = &mut room[..maker.width()];
+    maker.put(node, bytes).unwrap();
     encode(heap, &bytes[..])
 }
 

@@ -9,7 +9,7 @@ use Rattle.traversal.specs.declared.refusal.Refusal.TheVariants.{Heights, Table,
 use Rattle.traversal.specs.Calls.{begin_checks}
 
 -- a check that passed, and the others after it
-passed : {R : Type 0} (b : Bool) (r : R) (rest : List (Bool × R)) → first_refusal ((b, r) ∷ rest) ≡ None → (b ≡ true) × (first_refusal rest ≡ None)
+pub passed : {R : Type 0} (b : Bool) (r : R) (rest : List (Bool × R)) → first_refusal ((b, r) ∷ rest) ≡ None → (b ≡ true) × (first_refusal rest ≡ None)
 passed b r rest e =
     ⊎_elim
     (λ good. (good, sym (cond-true b (first_refusal rest) (Some r) good) ∙ e))

@@ -6,3 +6,4 @@ pub mod Rows
 pub mod Comparing
 pub mod Intervals
 pub mod Listing
+pub mod Supplying

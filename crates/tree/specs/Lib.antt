@@ -16,4 +16,3 @@ pub mod Spanning
 pub mod Aligning
 pub mod Numbering
 pub mod Sealing
-pub mod Supplying

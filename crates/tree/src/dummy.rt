@@ -62,6 +62,7 @@ impl Maker for Dummy {
         join_spans(left, right)
     }
 
+    #[tactic(auto, using(crate::proofs::Comparing::span_eq_decides))]
     fn same(&self, one: Span, other: Span) -> bool {
         one == other
     }

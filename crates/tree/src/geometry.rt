@@ -53,26 +53,28 @@ impl Shape {
     pub fn new(heights: Heights) -> Result<Shape, Refusal>
         ensures { Shapes heights.height heights.subtree result }
     {
+        let cells = size(heights)?;
         let Heights { height, subtree } = heights;
-        if !is_height(height) {
-            return Err(Refusal::Height(height));
-        }
-        if !is_subtree(heights) {
-            return Err(Refusal::Subtree(subtree));
-        }
         Ok(Shape {
             height,
             subtree,
-            cells: cells(heights),
+            cells,
         })
     }
 }
 
-/// How many cells the table of a traversal has.
+/// How many cells the table of a traversal has. It judges the heights, for all that ask.
 pub fn size(heights: Heights) -> Result<usize, Refusal>
     ensures { Sizes heights.height heights.subtree result }
 {
-    Ok(Shape::new(heights)?.cells)
+    let Heights { height, subtree } = heights;
+    if !is_height(height) {
+        return Err(Refusal::Height(height));
+    }
+    if !is_subtree(heights) {
+        return Err(Refusal::Subtree(subtree));
+    }
+    Ok(cells(heights))
 }
 
 /// The same for heights that are in order.

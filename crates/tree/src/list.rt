@@ -1,6 +1,5 @@
 ghost use Rattle.std.specs.Prelude.{◌≡◌};
 ghost use Rattle.tree.specs.Entries.{list_supply, Finds};
-ghost use Rattle.tree.specs.Supplying.{list_supplies};
 
 use crate::fault::{Cause, Missing};
 use crate::height;
@@ -47,8 +46,6 @@ impl<'a> ListSource<'a> {
 
 impl<'a> Source for ListSource<'a> {
     ghost supply = { λ s. list_supply s.bytes.now };
-
-    ghost supplies = { λ s. list_supplies s.bytes.now };
 
     fn size(&self) -> u32 {
         (self.bytes.len() / ENTRY).min(GREATEST) as u32

@@ -1,6 +1,5 @@
 ghost use Rattle.std.specs.Prelude.{◌≡◌};
 ghost use Rattle.tree.specs.Seeds.{seed_supply, Reseeds};
-ghost use Rattle.tree.specs.Supplying.{seed_supplies};
 
 use crate::fault::{Cause, Missing, TooShort};
 use crate::height::GREATEST;
@@ -44,8 +43,6 @@ impl SeedSource {
 
 impl Source for SeedSource {
     ghost supply = { λ s. seed_supply s.seed };
-
-    ghost supplies = { λ s. seed_supplies s.seed };
 
     fn size(&self) -> u32 {
         TOKENS

@@ -11,9 +11,12 @@ pub const TOKEN_LENGTH: usize = 32;
 pub trait Source {
     ghost supply: { Self → Supply };
 
-    /// How many numbers the source has.
+    /// How many numbers the source has. What every supply keeps is told here, and not by a law of the trait: a law is
+    /// owed of each value that the fields could have in the logic, where a `u16` is any number, and a caller of a
+    /// `dyn Source` can name none.
     fn size(&self) -> u32
-        ensures { result ≡ (supply self.now).size };
+        ensures value { result ≡ (supply self.now).size }
+        ensures lawful { Supplies (supply self.now) };
 
     /// Whether the token of a number is there.
     fn look_up(&self, number: u32) -> Result<(), Cause>
@@ -24,6 +27,4 @@ pub trait Source {
     fn token(&mut self, number: u32, out: &mut [u8; TOKEN_LENGTH]) -> Result<(), Missing>
         ensures gives { Gives (supply self.old) number out.old out.new result }
         ensures keeps { supply self.new ≡ supply self.old };
-
-    ghost supplies: { (s : Self) → Supplies (supply s) };
 }
